@@ -1,0 +1,46 @@
+-- Squares of whole numbers, and the whole number nearest to a root. Nothing here is about floats. Assumes nothing.
+use mathlib.Core.Path.{_≡_, subst}
+use Prim.Native.Nat.{ℕ, suc, _+_, _-_, _*_, _≤_, _<_}
+use native.Mathlib.Nat.{le-antisymm, lt-of-not-le, not-le-of-lt, le-of-suc-le-suc, add-mul, mul-add, mul-le-mul, mul-mul-mul-comm}
+use native.Mathlib.Omega.{arith}
+use Rattle.binary64.specs.NearRoot.{Nearest}
+
+pub sq-suc : (q : ℕ) → (q + 1) * (q + 1) ≡ q * q + 2 * q + 1
+sq-suc q = omega (arith, mul-add (q + 1) q 1, add-mul q 1 q)
+
+pub sq-two : (q : ℕ) → 2 * q * (2 * q) ≡ 4 * (q * q)
+sq-two q = mul-mul-mul-comm 2 q 2 q
+
+pub sq-odd : (q : ℕ) → (2 * q + 1) * (2 * q + 1) ≡ 4 * (q * q) + 4 * q + 1
+sq-odd q = omega (arith, sq-suc (2 * q), sq-two q)
+
+pub sq-lt : (a b : ℕ) → a * a < b * b → a < b
+sq-lt a b h = lt-of-not-le (λ (g : b ≤ a). not-le-of-lt h (mul-le-mul g g))
+
+-- a's square is at most n, and the next one's is above it
+abbrev pub Floored : ℕ → ℕ → Type 0
+Floored n a = (a * a ≤ n) × (n < (a + 1) * (a + 1))
+
+not-below : (w r t : ℕ) → Nearest w r → Nearest w t → r < t → ⊥
+not-below w r t a b h = step (t - 1) (omega arith) (subst (λ (x : ℕ). Nearest w x) (as-suc t h) b)
+  where
+    as-suc : (t : ℕ) → r < t → t ≡ t - 1 + 1
+    as-suc t h = omega arith
+
+    step : (u : ℕ) → r ≤ u → Nearest w (u + 1) → ⊥
+    step u l c = omega (arith, mul-le-mul l l, sq-suc u)
+
+pub nearest-unique : (w r t : ℕ) → Nearest w r → Nearest w t → r ≡ t
+nearest-unique w r t a b =
+    le-antisymm
+    (le-of-suc-le-suc (lt-of-not-le (λ (g : suc t ≤ r). not-below w t r b a g)))
+    (le-of-suc-le-suc (lt-of-not-le (λ (g : suc r ≤ t). not-below w r t a b g)))
+
+pub nearest-low : (w q : ℕ) → 0 < q → Floored w q → 4 * w < (2 * q + 1) * (2 * q + 1) → Nearest w q
+nearest-low w q p f h = (omega arith, omega (arith, sq-odd q))
+
+pub nearest-high : (w q : ℕ) → Floored w q → (2 * q + 1) * (2 * q + 1) < 4 * w → Nearest w (q + 1)
+nearest-high w q f h = (omega (arith, sq-odd q, sq-suc q), omega (arith, sq-suc q))
+
+pub no-tie : (w q : ℕ) → 4 * w ≡ (2 * q + 1) * (2 * q + 1) → ⊥
+no-tie w q h = omega (arith, sq-odd q)

@@ -1,0 +1,132 @@
+-- `binary64::root_bits` meets its contract: a normal value is m * 2 ^ p units (`normal`), and a subnormal one is moved up until it has 53 binary digits (`subnormal`). The loop's invariant: m is `bits` with k zeros after it. Assumes nothing.
+use mathlib.Core.Path.{_≡_, sym, ap, _∙_, subst}
+use Prim.Native.Nat.{ℕ, zero, suc, _+_, _-_, _*_, _/_, _%_, _^_, _≤_, _<_}
+use native.Mathlib.Nat.{mul-assoc, mul-left-comm, mul-one, one-mul, mul-pos, mul-le-mul-right, lt-of-not-le, not-le-of-lt, le-trans, pow-succ', div-lt-iff-lt-mul}
+use native.Mathlib.Omega.{arith}
+use mathlib.Core.Bool.{false}
+use lib.Pow.{pow-add, pow-pos, pow-mono}
+use lib.Bits.{bitAnd, and-mask, mask-lt}
+use lib.Ieee.{binary64, ofBits, ofFields}
+use lib.Ieee.Exact.{HasValue}
+use Rattle.binary64.specs.Root.{root, rootUnits}
+use Rattle.binary64.proofs.Decode.{clear, fields-low, fields-mid, root-value}
+use Rattle.binary64.proofs.square_root.root_bits.Statement.{statement}
+use Rattle.binary64.proofs.square_root.root_bits.Tie as tie
+
+-- ---- a normal value
+normal : (b : ℕ) → 0 < b / 2 ^ 52 → b < 0x7ff0_0000_0000_0000 → root (ofBits binary64 b) ≡ rootUnits ((bitAnd b 0xf_ffff_ffff_ffff + 2 ^ 52) * 2 ^ (b / 2 ^ 52 + 1073))
+normal b h l = go (b / 2 ^ 52) h (div-lt-iff-lt-mul (pow-pos 52) .1 l) (clear b (omega arith))
+  where
+    t : ℕ
+    t = b % 2 ^ 52
+
+    go : (x : ℕ) → 0 < x → x < 2047 → ofBits binary64 b ≡ ofFields binary64 false x t → root (ofBits binary64 b) ≡ rootUnits ((bitAnd b 0xf_ffff_ffff_ffff + 2 ^ 52) * 2 ^ (x + 1073))
+    go zero h l e = absurd (none h)
+      where
+        none : 0 < 0 → ⊥
+        none h = omega arith
+    go (suc x) h l e =
+        ap root e
+        ∙ root-value (ofFields binary64 false (suc x) t) ((2 ^ 52 + t) * 2 ^ x) (fields-mid false x t l) (mul-pos (omega arith) (pow-pos x))
+        ∙ ap rootUnits (mul-assoc (2 ^ 52 + t) (2 ^ x) (2 ^ 1074) ∙ ap (λ (y : ℕ). (2 ^ 52 + t) * y) (sym (pow-add 2 x 1074) ∙ ap (λ (y : ℕ). 2 ^ y) (turn x)) ∙ ap (λ (y : ℕ). y * 2 ^ (suc x + 1073)) (flip t ∙ ap (λ (y : ℕ). y + 2 ^ 52) (sym (and-mask b 52))))
+      where
+        turn : (x : ℕ) → x + 1074 ≡ suc x + 1073
+        turn x = omega arith
+
+        flip : (t : ℕ) → 2 ^ 52 + t ≡ t + 2 ^ 52
+        flip t = omega arith
+
+-- ---- a subnormal one, which is b units
+subnormal : (b k m : ℕ) → 0 < b → b / 2 ^ 52 ≡ 0 → m ≡ b * 2 ^ k → k ≤ 1074 → root (ofBits binary64 b) ≡ rootUnits (m * 2 ^ (1074 - k))
+subnormal b k m p z e l =
+    let small : b % 2 ^ 52 ≡ b = omega arith in
+    let v : HasValue (ofBits binary64 b) false b (2 ^ 1074) =
+    subst (λ (x : ℕ). HasValue (ofBits binary64 b) false x (2 ^ 1074)) small
+    (rw (clear b (omega arith), z) (fields-low false (b % 2 ^ 52))) in
+    root-value (ofBits binary64 b) b v p
+    ∙ ap rootUnits (ap (λ (x : ℕ). b * x) (ap (λ (x : ℕ). 2 ^ x) (sum k l) ∙ pow-add 2 k (1074 - k)) ∙ sym (mul-assoc b (2 ^ k) (2 ^ (1074 - k))) ∙ ap (λ (x : ℕ). x * 2 ^ (1074 - k)) (sym e))
+  where
+    sum : (k : ℕ) → k ≤ 1074 → 1074 ≡ k + (1074 - k)
+    sum k l = omega arith
+
+-- a b above 0 with k zeros after it has more than k digits
+few : (b k m : ℕ) → 0 < b → m ≡ b * 2 ^ k → m < 2 ^ 53 → k < 53
+few b k m p e h =
+    lt-of-not-le (λ (g : 53 ≤ k). not-le-of-lt h (le-trans (pow-mono g) (subst (λ (x : ℕ). 2 ^ k ≤ x) (sym e) (subst (λ (x : ℕ). x ≤ b * 2 ^ k) (one-mul (2 ^ k)) (mul-le-mul-right (2 ^ k) p)))))
+
+again : (b k m : ℕ) → m ≡ b * 2 ^ k → 2 * m ≡ b * 2 ^ (k + 1)
+again b k m e = ap (λ (x : ℕ). 2 * x) e ∙ mul-left-comm 2 b (2 ^ k) ∙ ap (λ (x : ℕ). b * x) (sym (pow-succ' 2 k) ∙ ap (λ (x : ℕ). 2 ^ x) (one k))
+  where
+    one : (k : ℕ) → suc k ≡ k + 1
+    one k = omega arith
+
+abbrev Inv-loop : tie.InvT-loop
+Inv-loop bits e m₀ k₀ m k = (0 < m) × (m < 2 ^ 53) × (k < 53) × (m ≡ bits * 2 ^ k)
+
+abbrev μ-loop : tie.MeasureT-loop
+μ-loop bits e m₀ k₀ m k = 2 ^ 52 - m
+
+add-root-of : tie.Need-add-root-of Inv-loop μ-loop
+add-root-of c = omega (arith, mask-lt (c .before .args .bits) 52)
+
+add-root-of-2 : tie.Need-add-root-of-2 Inv-loop μ-loop
+add-root-of-2 c = omega arith
+
+root-of-requires : tie.Need-root-of-requires Inv-loop μ-loop
+root-of-requires c κs = omega (arith, mask-lt (c .before .args .bits) 52)
+
+returns : tie.Need-returns Inv-loop μ-loop
+returns c = let s = c .before .before in (c .root-of .ensures .0, c .root-of .ensures .1 ∙ sym (normal (s .args .bits) (c .before .if1 .taken) (s .pre .1)))
+
+loop-holds : tie.Need-loop-holds Inv-loop μ-loop
+loop-holds c = (omega arith, omega arith, omega arith, sym (mul-one _))
+
+mul-m : tie.Need-mul-m Inv-loop μ-loop
+mul-m c = omega arith
+
+add-k : tie.Need-add-k Inv-loop μ-loop
+add-k c = omega arith
+
+loop-less : tie.Need-loop-less Inv-loop μ-loop
+loop-less c = omega arith
+
+loop-again : tie.Need-loop-again Inv-loop μ-loop
+loop-again c =
+    let l = c .before .loop in
+    let b = c .before .before .before .args .bits in
+    let p : 0 < b = c .before .before .before .pre .0 in
+    let e : 2 * l .m ≡ b * 2 ^ (l .k + 1) = again b (l .k) (l .m) (l .inv .3) in
+    let s : 2 * l .m < 2 ^ 53 = omega arith in
+    (omega arith, s, few b (l .k + 1) (2 * l .m) p e s, e)
+
+sub-root-of : tie.Need-sub-root-of Inv-loop μ-loop
+sub-root-of c = omega arith
+
+root-of-requires-2 : tie.Need-root-of-requires-2 Inv-loop μ-loop
+root-of-requires-2 c κs = omega arith
+
+returns-2 : tie.Need-returns-2 Inv-loop μ-loop
+returns-2 c =
+    let l = c .before .before .loop in
+    let at-start = c .before .before .before .before in
+    let z : at-start .args .bits / 2 ^ 52 ≡ 0 = omega arith in
+    (c .root-of2 .ensures .0, c .root-of2 .ensures .1 ∙ sym (subnormal (at-start .args .bits) (l .k) (l .m) (at-start .pre .0) z (l .inv .3) (omega arith)))
+
+pub root-bits-spec : {M : Type 1} → statement M
+root-bits-spec =
+    tie.close
+    (tie.spec
+    Inv-loop
+    μ-loop
+    add-root-of
+    add-root-of-2
+    root-of-requires
+    returns
+    loop-holds
+    mul-m
+    add-k
+    loop-less
+    loop-again
+    sub-root-of
+    root-of-requires-2
+    returns-2)

@@ -1,0 +1,5 @@
+pub mod Steps
+pub mod Root
+pub mod Rounding
+pub mod Meaning
+pub mod NearRoot

@@ -1,0 +1,5 @@
+pub mod Words
+pub mod Digits
+pub mod Distance
+pub mod Floor
+pub mod Edges
