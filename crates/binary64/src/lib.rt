@@ -6,7 +6,8 @@ mod square_root;
 pub use rounding::round;
 pub use square_root::sqrt;
 ghost use mathlib.Core.Path.{_≡_};
-ghost use Rattle.binary64.specs.Steps.{abs, isFinite, maxOf};
+ghost use lib.Ieee.{binary64, toBits};
+ghost use Rattle.binary64.specs.Steps.{#, abs, isFinite, maxOf};
 
 // The bits of an f64: the sign, eleven of the exponent, and the 52 binary digits below the leading
 // one, which is left out. SIGN is also the bits of -0, and LEAD the place of the leading digit.
@@ -17,6 +18,29 @@ const INFINITY: u64 = 0x7ff0_0000_0000_0000;
 const LEAD: u64 = 0x10_0000_0000_0000;
 
 const DIGITS: u64 = 0xf_ffff_ffff_ffff;
+
+// The bits that stand for a not-a-number, whichever it is.
+const NAN: u64 = 0x7ff8_0000_0000_0000;
+
+// The value with these bits, for every bits: those of a not-a-number give the one that counts.
+pub fn from_bits(bits: u64) -> f64
+    ensures { λ r. ⌜ r ≡ # bits ⌝ }
+{
+    if bits % SIGN > INFINITY {
+        return 0.0 / 0.0;
+    }
+    f64::from_bits(bits)
+}
+
+// The bits of x, for every x: a not-a-number's are 7FF8000000000000.
+pub fn to_bits(x: f64) -> u64
+    ensures { λ r. ⌜ r ≡ toBits binary64 x ⌝ }
+{
+    if x != x {
+        return NAN;
+    }
+    f64::to_bits(x)
+}
 
 // The magnitude: `f64::abs`, which clears the sign.
 pub fn abs(x: f64) -> f64
@@ -46,5 +70,5 @@ pub fn is_finite(x: f64) -> bool
     if x != x {
         return false;
     }
-    f64::to_bits(x) % SIGN < INFINITY
+    INFINITY > f64::to_bits(x) % SIGN
 }

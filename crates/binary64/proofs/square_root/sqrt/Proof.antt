@@ -7,11 +7,11 @@ use mathlib.Core.Bool.{Bool, true, false, cond}
 use mathlib.Core.Logic.{_⊎_, inl, inr}
 use lib.Dec.{leb, eqb, le→leb}
 use lib.Pow.{pow-pos}
-use lib.Ieee.{Float, nan, inf, binary64, div, ofFields, ofBits, toBits}
+use lib.Ieee.{Float, nan, inf, binary64, ofFields, ofBits, toBits}
 use lib.Ieee.Bits.{is-true}
 use borrow.Author.Needs.{needs}
 use Rattle.binary64.specs.Root.{root}
-use Rattle.binary64.proofs.Patterns.{no-nan, number, is-nan, back, bits-lt}
+use Rattle.binary64.proofs.Patterns.{no-nan, number, zero-by-zero, is-nan, back, bits-lt}
 use Rattle.binary64.proofs.Decode.{fields, clear, fields-low, fields-mid, root-negative}
 use Rattle.binary64.proofs.square_root.sqrt.Statement.{statement}
 use Rattle.binary64.proofs.square_root.sqrt.Tie as tie
@@ -55,10 +55,6 @@ at-negative : (b : ℕ) → 2 ^ 63 < b → b < 2 ^ 64 → root (ofBits binary64 
 at-negative b lo hi =
     ap root (fields b ∙ ap (λ (s : Bool). ofFields binary64 s (b % 2 ^ 63 / 2 ^ 52) (b % 2 ^ 52)) (is-true (leb (2 ^ 63) b) (le→leb (2 ^ 63) b (le-of-lt lo))))
     ∙ negative-fields (b % 2 ^ 63 / 2 ^ 52) (b % 2 ^ 52) (omega arith) (omega arith)
-
-zero-by-zero : div binary64 (ofBits binary64 0) (ofBits binary64 0) ≡ nan
-unfolding div ofBits
-zero-by-zero = refl
 
 root-nan : (x : Float) → x ≡ nan → x ≡ root x
 unfolding root
