@@ -13,6 +13,17 @@ double mlat_sqrt(double x);
 /* The nearest whole number, a half away from zero, with the sign of x. Infinities and not-a-numbers pass. */
 double mlat_round(double x);
 
+/* Sine and cosine of an angle within 7 radians either way, by the steps of fdlibm 5.3; a not-a-number for any other. */
+double mlat_sin(double x);
+double mlat_cos(double x);
+
+/* Both together: pair[0] is the sine and pair[1] the cosine. */
+void mlat_sincos(double x, double pair[2]);
+
+/* The angle of (x, y) from the x axis, and the length of (x, y), by the steps of fdlibm 5.3. */
+double mlat_atan2(double y, double x);
+double mlat_hypot(double x, double y);
+
 #ifdef __cplusplus
 }
 #endif

@@ -1,0 +1,5 @@
+-- The laws that the proofs share, and worked values.
+pub mod Infinity
+pub mod Cast
+pub mod Sizes
+mod Worked

@@ -1,0 +1,75 @@
+-- An angle less a multiple of pi/2: e_rem_pio2.c of fdlibm 5.3, for angles from pi/4 to 7. Definitions only.
+use Prim.Native.Nat.{ℕ, _-_, _/_, _^_}
+use mathlib.Core.Bool.{not, cond}
+use lib.IntN.{pos}
+use lib.Dec.{leb, ltb, eqb}
+use lib.Ieee.{Float, binary64, ofInt, toUnsigned}
+use Rattle.binary64.specs.Steps.{_⊕_, _⊖_, _⊗_, #}
+use Rattle.libm.specs.Words.{high, half}
+use Rattle.libm.specs.declared.rem_pio2.Reduced.{Reduced}
+use Rattle.libm.specs.declared.rem_pio2.Rest.{Rest}
+
+-- the constants of e_rem_pio2.c: 2 / pi; three parts of pi / 2, of 33 binary digits each; and, with a t, the rest of pi / 2 after each part
+abbrev pub invpio2 : Float
+invpio2 = # 0x3FE45F306DC9C883
+
+abbrev pub pio2-1 : Float
+pio2-1 = # 0x3FF921FB54400000
+
+abbrev pub pio2-1t : Float
+pio2-1t = # 0x3DD0B4611A626331
+
+abbrev pub pio2-2 : Float
+pio2-2 = # 0x3DD0B4611A600000
+
+abbrev pub pio2-2t : Float
+pio2-2t = # 0x3BA3198A2E037073
+
+abbrev pub pio2-3 : Float
+pio2-3 = # 0x3BA3198A2E000000
+
+abbrev pub pio2-3t : Float
+pio2-3t = # 0x397B839A252049C1
+
+-- `npio2_hw[n-1]`, the high word of n * pi / 2: fdlibm's first four, since an angle up to 7 has an n from 1 to 4
+unfoldable pub npio2Hw : ℕ → ℕ
+npio2Hw n = cond (eqb n 1) 0x3ff921fb (cond (eqb n 2) 0x400921fb (cond (eqb n 3) 0x4012d97c 0x401921fb))
+
+-- `i = j-((__HI(y)>>20)&0x7ff)`, where `j = ix>>20`: how far the exponent's field of y lies below that of x. An i below 0 counts as 0 here: the tests are i > 16 and
+-- i > 49.
+unfoldable pub lost : Float → Float → ℕ
+lost x y = high x / 2 ^ 20 - high y / 2 ^ 20
+
+-- `y[0] = r-w; y[1] = (r-y[0])-w;`, with the n that is returned
+unfoldable pub split : ℕ → Float → Float → Reduced
+split k r w = let y = r ⊖ w in record { n = k; y0 = y; y1 = (r ⊖ y) ⊖ w }
+
+-- a second or third stage: `t = r; w = fn*part; r = t-w; w = fn*tail-((t-r)-w);`
+unfoldable pub stage : Float → Float → Float → Float → Rest
+stage t f part tail =
+    let v = f ⊗ part in
+    let s = t ⊖ v in
+    record { r = s; w = f ⊗ tail ⊖ ((t ⊖ s) ⊖ v) }
+
+-- "medium size", from 3 pi / 4 on. Two choices decide bits. n is x * invpio2 + 1/2 cut to a whole number, not the nearest one; f is n as a float, fdlibm's fn. And
+-- there is a second stage only where x has the high word of n * pi / 2 and the first loses more than 16 places, and a third only where still more than 49 are lost.
+unfoldable pub medium : Float → Reduced
+medium x =
+    let n = toUnsigned 64 (x ⊗ invpio2 ⊕ half) in
+    let f = ofInt binary64 (pos n) in
+    let r = x ⊖ f ⊗ pio2-1 in
+    let w = f ⊗ pio2-1t in
+    let second = stage r f pio2-2 pio2-2t in
+    let third = stage (second .r) f pio2-3 pio2-3t in
+    cond (not (eqb (high x) (npio2Hw n))) (split n r w)
+    (cond (leb (lost x (r ⊖ w)) 16) (split n r w)
+    (cond (leb (lost x (second .r ⊖ second .w)) 49) (split n (second .r) (second .w))
+    (split n (third .r) (third .w))))
+
+-- `__ieee754_rem_pio2` of |x|, past pi / 4. For a negative x fdlibm takes the same steps with every sign turned, which turns the signs of y[0], y[1] and n and no
+-- other bit: cosine does not change, and sine gets the sign of x. Below the high word 0x4002D97C, which is that of 3 pi / 4, n is 1, and there are two stages at
+-- most, the second where x has the high word of pi / 2.
+unfoldable pub remPio2 : Float → Reduced
+remPio2 x =
+    let z = x ⊖ pio2-1 in
+    cond (ltb (high x) 0x4002d97c) (cond (not (eqb (high x) 0x3ff921fb)) (split 1 z pio2-1t) (split 1 (z ⊖ pio2-2) pio2-2t)) (medium x)

@@ -1,0 +1,40 @@
+// Sine and cosine together: one reduction and one call of each kernel for both.
+ghost use mathlib.Core.Path.{_≡_};
+ghost use Rattle.libm.specs.Trig.{sincos};
+use crate::kernels::k_cos;
+use crate::kernels::k_sin;
+use crate::rem_pio2::LIMIT;
+use crate::rem_pio2::rem_pio2;
+use crate::trig::SinCos;
+use crate::words::high;
+use crate::words::signed;
+use crate::words::switch;
+
+// The sine and the cosine of x; not-a-numbers beyond ±7.
+pub fn sincos(x: f64) -> SinCos
+    ensures { λ r. ⌜ r ≡ sincos x ⌝ }
+{
+    // |x| up to pi/4
+    if high(x) <= 0x3fe9_21fb {
+        let s = k_sin(x, 0.0, 0);
+        let c = k_cos(x, 0.0);
+        return SinCos { sin: s, cos: c };
+    }
+    let t = binary64::abs(x);
+    if t <= LIMIT {
+        let y = rem_pio2(t);
+        let n = y.n % 4;
+        let s = k_sin(y.y0, y.y1, 1);
+        let c = k_cos(y.y0, y.y1);
+        let sine = signed(x, switch(n, s, c, -s, -c));
+        let cosine = switch(n, c, -s, -c, s);
+        return SinCos {
+            sin: sine,
+            cos: cosine,
+        };
+    }
+    SinCos {
+        sin: 0.0 / 0.0,
+        cos: 0.0 / 0.0,
+    }
+}
