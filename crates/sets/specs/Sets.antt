@@ -1,0 +1,28 @@
+-- Sets of receptions. A set is a test on indices: `T (S i)` says that reception i is in S. Definitions only.
+use mathlib.Core.Bool.{Bool, true, false, not, _&&_, _||_}
+use Prim.Native.Nat.{ℕ, zero, suc, _+_}
+use lib.Dec.{ltb, eqb}
+
+abbrev pub Subset : Type 0
+Subset = ℕ → Bool
+
+-- the receptions 0 to n - 1
+abbrev pub first : ℕ → Subset
+first n i = ltb i n
+
+-- S and i
+unfoldable pub joined : Subset → ℕ → Subset
+joined S i j = S j || eqb j i
+
+-- S less i
+unfoldable pub without : Subset → ℕ → Subset
+without S i j = S j && not (eqb j i)
+
+abbrev pub bit : Bool → ℕ
+bit true = 1
+bit false = 0
+
+-- how many of the receptions below n are in S
+unfoldable pub count : Subset → ℕ → ℕ
+count S zero = 0
+count S (suc k) = bit (S k) + count S k
