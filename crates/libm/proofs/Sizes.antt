@@ -4,7 +4,8 @@ use mathlib.Core.Path.{_≡_, refl, sym, ap, _∙_, subst}
 use mathlib.Core.Logic.{inl, inr}
 use mathlib.Core.Bool.{Bool, true, false, true≢false}
 use Prim.Native.Nat.{ℕ, zero, suc, _+_, _*_, _/_, _%_, _^_, _≤_, _<_}
-use native.Mathlib.Nat.{le-trans, le-of-eq, lt-of-lt-of-le, mul-assoc, mul-le-mul, mul-le-mul-right, mul-lt-mul-of-pos-right, le-mul-of-pos-right, le-of-mul-le-mul-right, eq-or-lt-of-le, le-of-lt, lt-of-not-le, not-le-of-lt}
+use native.Mathlib.Nat.{le-trans, le-of-eq, le-of-lt, lt-of-lt-of-le, lt-of-not-le, not-le-of-lt, eq-or-lt-of-le}
+use native.Mathlib.Nat.{mul-assoc, mul-le-mul, mul-le-mul-right, mul-lt-mul-of-pos-right, le-mul-of-pos-right, le-of-mul-le-mul-right}
 use native.Mathlib.Omega.{arith}
 use borrow.Author.Tests.{lt-ltb, le-ltb, ltb-true, ltb-false}
 use lib.Dec.{ltb}
@@ -35,7 +36,9 @@ grows zero (suc y) t u h k l = lt-of-lt-of-le h (le-trans (omega arith) (le-mul-
 grows (suc x) zero t u h k l = absurd (omega arith)
 grows (suc x) (suc y) t u h k l = elim (eq-or-lt-of-le below) [
   | inl e ↦ subst (λ (z : ℕ). (2 ^ 52 + t) * 2 ^ x < (2 ^ 52 + u) * 2 ^ z) e (mul-lt-mul-of-pos-right (digits e) (pow-pos x))
-  | inr m ↦ lt-of-lt-of-le (mul-lt-mul-of-pos-right carry (pow-pos x)) (le-trans (le-of-eq (mul-assoc (2 ^ 52) 2 (2 ^ x))) (mul-le-mul (omega arith) (le-trans (le-of-eq (sym (pow-add 2 1 x))) (pow-mono (next m)))))
+  | inr m ↦
+      let double : 2 * 2 ^ x ≤ 2 ^ y = le-trans (le-of-eq (sym (pow-add 2 1 x))) (pow-mono (next m)) in
+      lt-of-lt-of-le (mul-lt-mul-of-pos-right carry (pow-pos x)) (le-trans (le-of-eq (mul-assoc (2 ^ 52) 2 (2 ^ x))) (mul-le-mul (omega arith) double))
 ]
   where
     below : x ≤ y

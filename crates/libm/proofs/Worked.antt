@@ -11,9 +11,9 @@ use Rattle.libm.specs.RemPio2 as reduction
 use Rattle.libm.specs.Trig.{sinOf, cosOf, sin, cos, limit}
 use Rattle.libm.specs.Atan.{reduce, series, atan, signs, quarter, xInf, quotient, atan2, pi, pi-o-2, atanhi0, three}
 use Rattle.libm.specs.Hypotenuse.{infOrNan, scaled, hypot}
-use Rattle.libm.specs.Hypotenuse as length
+use Rattle.libm.specs.Hypotenuse as hypotenuse
 
--- ±0; 1, past pi / 4; -2, past pi / 2; the binary64 nearest to pi, which takes three stages; 7, and the next value
+-- ±0; 1, past pi / 4; -2, past pi / 2; the binary64 nearest to pi, which takes three stages; 7, and the next value; not-a-number
 sines
     : (sin nought ≡ nought)
     × (sin (neg nought) ≡ neg nought)
@@ -22,8 +22,9 @@ sines
     × (sin pi ≡ # 0x3CA1A62633145C07)
     × (sin limit ≡ # 0x3FE50608C26D0A08)
     × (sin (# 0x401C000000000001) ≡ nan)
+    × (sin nan ≡ nan)
 unfolding sin sinOf kSin kCos qx remPio2 reduction.medium npio2Hw lost split stage high negative signed switch abs neg add sub mul le ofInt toUnsigned ofBits toBits
-sines = (refl, refl, refl, refl, refl, refl, refl)
+sines = (refl, refl, refl, refl, refl, refl, refl, refl)
 
 -- 0; 0.7, which takes qx; the binary64 nearest to pi / 2, which takes two stages; 2; an infinity
 cosines
@@ -57,5 +58,5 @@ lengths
     × (hypot (# 0x0000001C23CFD4C4) (# 0x001ED0CB49697FEA) ≡ # 0x001ED0CB49765912)
     × (hypot (# 0x3FF01C79790EE11A) (# 0x3FF01C79DAD7FA58) ≡ # 0x3FF6C8E38AB94DAC)
     × (hypot (# 0x3FF01C79DAD7FA58) (# 0x3FF01C79790EE11A) ≡ # 0x3FF6C8E38AB94DAD)
-unfolding hypot infOrNan scaled length.medium root high abs neg add sub mul lt eq ofBits toBits
+unfolding hypot infOrNan scaled hypotenuse.medium root high abs neg add sub mul lt eq ofBits toBits
 lengths = (refl, refl, refl, refl, refl, refl, refl)

@@ -60,7 +60,7 @@ unfoldable pub qx : ℕ → Float
 qx ix = cond (ltb 0x3fe90000 ix) (# 0x3FD2000000000000) (word (ix - 0x00200000))
 
 -- `__kernel_cos`: the cosine of x + y, where y is the tail of x. Two choices decide bits: below the high word 0x3E400000, which is 2^-27, it is 1; and from the high
--- word 0x3FD33333 on, which is 0.3, it is the form with qx, which later versions replaced.
+-- word 0x3FD33333 on, about 0.3, it is the form with qx, which later versions replaced.
 unfoldable pub kCos : Float → Float → Float
 kCos x y =
     let ix = high x in

@@ -19,36 +19,20 @@ returns-2 : tie.Need-returns-2
 unfolding atan
 returns-2 c =
     let at-if1 = c .before .before .before in
-    rw (
-      ← at-if1 .before .high .ensures,
-      le-leb _ _ (at-if1 .if1 .taken),
-      c .before .before .if2 .left,
-      ← c .before .negative .ensures,
-      c .if3 .taken,
-    )
+    rw (← at-if1 .before .high .ensures, le-leb _ _ (at-if1 .if1 .taken), c .before .before .if2 .left, ← c .before .negative .ensures)
+    (rw (c .if3 .taken))
 
 returns-3 : tie.Need-returns-3
 unfolding atan
 returns-3 c =
     let at-if1 = c .before .before .before in
-    rw (
-      ← at-if1 .before .high .ensures,
-      le-leb _ _ (at-if1 .if1 .taken),
-      c .before .before .if2 .left,
-      ← c .before .negative .ensures,
-      c .if3 .left,
-    )
+    rw (← at-if1 .before .high .ensures, le-leb _ _ (at-if1 .if1 .taken), c .before .before .if2 .left, ← c .before .negative .ensures, c .if3 .left)
 
 returns-4 : tie.Need-returns-4
 unfolding atan
 returns-4 c =
     let at-high = c .before .before .before in
-    rw (
-      ← at-high .high .ensures,
-      lt-leb _ _ (c .before .before .if1 .left),
-      lt-ltb _ _ (c .before .if4 .taken),
-      lt-ltb _ _ (c .if5 .taken),
-    )
+    rw (← at-high .high .ensures, lt-leb _ _ (c .before .before .if1 .left), lt-ltb _ _ (c .before .if4 .taken), lt-ltb _ _ (c .if5 .taken))
 
 series-requires : tie.Need-series-requires
 series-requires c κs = search needs
@@ -57,13 +41,8 @@ returns-5 : tie.Need-returns-5
 unfolding atan
 returns-5 c =
     let at-if1 = c .before .before .before in
-    rw (
-      ← at-if1 .before .high .ensures,
-      lt-leb _ _ (at-if1 .if1 .left),
-      lt-ltb _ _ (c .before .before .if4 .taken),
-      le-ltb _ _ (c .before .if5 .left),
-      ← c .series .ensures,
-    )
+    rw (← at-if1 .before .high .ensures, lt-leb _ _ (at-if1 .if1 .left), lt-ltb _ _ (c .before .before .if4 .taken))
+    (rw (le-ltb _ _ (c .before .if5 .left), ← c .series .ensures))
 
 abs-requires : tie.Need-abs-requires
 abs-requires c κs = search needs
@@ -82,15 +61,8 @@ unfolding atan
 returns-6 c =
     let at-series2 = c .before .before .before .before .before in
     let at-if4 = at-series2 .before .before .before in
-    rw (
-      ← at-if4 .before .before .high .ensures,
-      lt-leb _ _ (at-if4 .before .if1 .left),
-      le-ltb _ _ (at-if4 .if4 .left),
-      ← at-series2 .before .before .abs .ensures,
-      ← at-series2 .before .reduce .ensures,
-      ← at-series2 .series2 .ensures,
-      ← c .signed .ensures,
-    )
+    rw (← at-if4 .before .before .high .ensures, lt-leb _ _ (at-if4 .before .if1 .left), le-ltb _ _ (at-if4 .if4 .left))
+    (rw (← at-series2 .before .before .abs .ensures, ← at-series2 .before .reduce .ensures, ← at-series2 .series2 .ensures, ← c .signed .ensures))
 
 pub atan-spec : {M : Type 1} → statement M
 atan-spec =

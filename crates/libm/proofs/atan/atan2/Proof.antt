@@ -30,14 +30,8 @@ returns-4 : tie.Need-returns-4
 unfolding atan2
 returns-4 c =
     let at-if3 = c .before .before .before in
-    rw (
-      at-if3 .before .before .if1 .left,
-      at-if3 .before .if2 .left,
-      at-if3 .if3 .left,
-      c .before .if4 .taken,
-      ← c .before .before .signs .ensures,
-      ← c .switch .ensures,
-    )
+    rw (at-if3 .before .before .if1 .left, at-if3 .before .if2 .left, at-if3 .if3 .left, c .before .if4 .taken, ← c .before .before .signs .ensures)
+    (rw (← c .switch .ensures))
 
 quarter-requires : tie.Need-quarter-requires
 quarter-requires c κs = search needs
@@ -46,14 +40,8 @@ returns-5 : tie.Need-returns-5
 unfolding atan2
 returns-5 c =
     let at-if3 = c .before .before .before .before in
-    rw (
-      at-if3 .before .before .if1 .left,
-      at-if3 .before .if2 .left,
-      at-if3 .if3 .left,
-      c .before .before .if4 .left,
-      c .before .if5 .taken,
-      ← c .quarter .ensures,
-    )
+    rw (at-if3 .before .before .if1 .left, at-if3 .before .if2 .left, at-if3 .if3 .left, c .before .before .if4 .left, c .before .if5 .taken)
+    (rw (← c .quarter .ensures))
 
 high-requires : tie.Need-high-requires
 high-requires c κs = search needs
@@ -70,18 +58,9 @@ returns-6 c =
     let at-high = c .before .before .before in
     let at-signs = at-high .before .before .before in
     let at-if1 = at-signs .before .before .before in
-    rw (
-      at-if1 .if1 .left,
-      at-signs .before .before .if2 .left,
-      at-signs .before .if3 .left,
-      at-high .before .before .if4 .left,
-      at-high .before .if5 .left,
-      ← at-signs .signs .ensures,
-      ← at-high .high .ensures,
-      eq-eqb _ _ (c .before .before .if6 .taken),
-      ← c .before .high2 .ensures,
-      ← c .x-inf .ensures,
-    )
+    rw (at-if1 .if1 .left, at-signs .before .before .if2 .left, at-signs .before .if3 .left, at-high .before .before .if4 .left)
+    (rw (at-high .before .if5 .left, ← at-signs .signs .ensures, ← at-high .high .ensures, eq-eqb _ _ (c .before .before .if6 .taken))
+    (rw (← c .before .high2 .ensures, ← c .x-inf .ensures)))
 
 high-requires-3 : tie.Need-high-requires-3
 high-requires-3 c κs = search needs
@@ -95,18 +74,9 @@ returns-7 c =
     let at-if6 = c .before .before .before in
     let at-if4 = at-if6 .before .before .before in
     let at-if2 = at-if4 .before .before .before in
-    rw (
-      at-if2 .before .if1 .left,
-      at-if2 .if2 .left,
-      at-if4 .before .before .if3 .left,
-      at-if4 .if4 .left,
-      at-if6 .before .before .if5 .left,
-      ← at-if6 .before .high .ensures,
-      ne-eqb _ _ (at-if6 .if6 .left),
-      ← c .before .before .high3 .ensures,
-      eq-eqb _ _ (c .before .if7 .taken),
-      ← c .quarter2 .ensures,
-    )
+    rw (at-if2 .before .if1 .left, at-if2 .if2 .left, at-if4 .before .before .if3 .left, at-if4 .if4 .left, at-if6 .before .before .if5 .left)
+    (rw (← at-if6 .before .high .ensures, ne-eqb _ _ (at-if6 .if6 .left), ← c .before .before .high3 .ensures, eq-eqb _ _ (c .before .if7 .taken))
+    (rw (← c .quarter2 .ensures)))
 
 quotient-requires : tie.Need-quotient-requires
 quotient-requires c κs = search needs
@@ -120,20 +90,9 @@ returns-8 c =
     let at-high3 = c .before .before .before in
     let at-if5 = at-high3 .before .before .before in
     let at-if3 = at-if5 .before .before .before in
-    rw (
-      at-if3 .before .before .if1 .left,
-      at-if3 .before .if2 .left,
-      at-if3 .if3 .left,
-      at-if5 .before .if4 .left,
-      at-if5 .if5 .left,
-      ← at-high3 .before .before .high .ensures,
-      ne-eqb _ _ (at-high3 .before .if6 .left),
-      ← at-high3 .high3 .ensures,
-      ne-eqb _ _ (c .before .before .if7 .left),
-      ← at-if5 .before .before .signs .ensures,
-      ← c .before .quotient .ensures,
-      ← c .switch2 .ensures,
-    )
+    rw (at-if3 .before .before .if1 .left, at-if3 .before .if2 .left, at-if3 .if3 .left, at-if5 .before .if4 .left, at-if5 .if5 .left)
+    (rw (← at-high3 .before .before .high .ensures, ne-eqb _ _ (at-high3 .before .if6 .left), ← at-high3 .high3 .ensures)
+    (rw (ne-eqb _ _ (c .before .before .if7 .left), ← at-if5 .before .before .signs .ensures, ← c .before .quotient .ensures, ← c .switch2 .ensures)))
 
 pub atan2-spec : {M : Type 1} → statement M
 atan2-spec =

@@ -25,14 +25,8 @@ returns : tie.Need-returns
 unfolding hypot
 returns c =
     let at-if1 = c .before .before .before in
-    rw (
-      ← at-if1 .before .before .high .ensures,
-      ← at-if1 .before .high2 .ensures,
-      lt-ltb _ _ (at-if1 .if1 .taken),
-      ← c .before .before .abs .ensures,
-      ← c .before .abs2 .ensures,
-      ← c .scaled .ensures,
-    )
+    rw (← at-if1 .before .before .high .ensures, ← at-if1 .before .high2 .ensures, lt-ltb _ _ (at-if1 .if1 .taken))
+    (rw (← c .before .before .abs .ensures, ← c .before .abs2 .ensures, ← c .scaled .ensures))
 
 abs-requires-3 : tie.Need-abs-requires-3
 abs-requires-3 c κs = search needs
@@ -47,14 +41,8 @@ returns-2 : tie.Need-returns-2
 unfolding hypot
 returns-2 c =
     let at-if1 = c .before .before .before in
-    rw (
-      ← at-if1 .before .before .high .ensures,
-      ← at-if1 .before .high2 .ensures,
-      le-ltb _ _ (at-if1 .if1 .left),
-      ← c .before .before .abs3 .ensures,
-      ← c .before .abs4 .ensures,
-      ← c .scaled2 .ensures,
-    )
+    rw (← at-if1 .before .before .high .ensures, ← at-if1 .before .high2 .ensures, le-ltb _ _ (at-if1 .if1 .left))
+    (rw (← c .before .before .abs3 .ensures, ← c .before .abs4 .ensures, ← c .scaled2 .ensures))
 
 pub hypot-spec : {M : Type 1} → statement M
 hypot-spec =

@@ -20,12 +20,7 @@ returns-2 : tie.Need-returns-2
 unfolding scaled
 returns-2 c =
     let at-if1 = c .before .before .before in
-    rw (
-      le-ltb _ _ (at-if1 .if1 .left),
-      lt-ltb _ _ (c .before .before .if2 .taken),
-      le-leb _ _ (c .before .if3 .taken),
-      ← c .inf-or-nan .ensures,
-    )
+    rw (le-ltb _ _ (at-if1 .if1 .left), lt-ltb _ _ (c .before .before .if2 .taken), le-leb _ _ (c .before .if3 .taken), ← c .inf-or-nan .ensures)
 
 sub-medium : tie.Need-sub-medium
 sub-medium c = omega arith
@@ -40,24 +35,14 @@ returns-3 : tie.Need-returns-3
 unfolding scaled
 returns-3 c =
     let at-if1 = c .before .before .before in
-    rw (
-      le-ltb _ _ (at-if1 .if1 .left),
-      lt-ltb _ _ (c .before .before .if2 .taken),
-      lt-leb _ _ (c .before .if3 .left),
-      ← c .medium .ensures,
-    )
+    rw (le-ltb _ _ (at-if1 .if1 .left), lt-ltb _ _ (c .before .before .if2 .taken), lt-leb _ _ (c .before .if3 .left), ← c .medium .ensures)
 
 returns-4 : tie.Need-returns-4
 unfolding scaled
 returns-4 c =
     let at-if2 = c .before .before .before in
-    rw (
-      le-ltb _ _ (at-if2 .before .if1 .left),
-      le-ltb _ _ (at-if2 .if2 .left),
-      lt-ltb _ _ (c .before .before .if4 .taken),
-      le-leb _ _ (c .before .if5 .taken),
-      c .if6 .taken,
-    )
+    rw (le-ltb _ _ (at-if2 .before .if1 .left), le-ltb _ _ (at-if2 .if2 .left), lt-ltb _ _ (c .before .before .if4 .taken))
+    (rw (le-leb _ _ (c .before .if5 .taken), c .if6 .taken))
 
 medium-requires-2 : tie.Need-medium-requires-2
 medium-requires-2 c κs = omega arith
@@ -66,14 +51,8 @@ returns-5 : tie.Need-returns-5
 unfolding scaled
 returns-5 c =
     let at-if4 = c .before .before .before in
-    rw (
-      le-ltb _ _ (at-if4 .before .before .if1 .left),
-      le-ltb _ _ (at-if4 .before .if2 .left),
-      lt-ltb _ _ (at-if4 .if4 .taken),
-      le-leb _ _ (c .before .before .if5 .taken),
-      c .before .if6 .left,
-      ← c .medium2 .ensures,
-    )
+    rw (le-ltb _ _ (at-if4 .before .before .if1 .left), le-ltb _ _ (at-if4 .before .if2 .left), lt-ltb _ _ (at-if4 .if4 .taken))
+    (rw (le-leb _ _ (c .before .before .if5 .taken), c .before .if6 .left, ← c .medium2 .ensures))
 
 add-medium : tie.Need-add-medium
 add-medium c = omega arith
@@ -88,13 +67,8 @@ returns-6 : tie.Need-returns-6
 unfolding scaled
 returns-6 c =
     let at-if2 = c .before .before .before in
-    rw (
-      le-ltb _ _ (at-if2 .before .if1 .left),
-      le-ltb _ _ (at-if2 .if2 .left),
-      lt-ltb _ _ (c .before .before .if4 .taken),
-      lt-leb _ _ (c .before .if5 .left),
-      ← c .medium3 .ensures,
-    )
+    rw (le-ltb _ _ (at-if2 .before .if1 .left), le-ltb _ _ (at-if2 .if2 .left), lt-ltb _ _ (c .before .before .if4 .taken))
+    (rw (lt-leb _ _ (c .before .if5 .left), ← c .medium3 .ensures))
 
 medium-requires-4 : tie.Need-medium-requires-4
 medium-requires-4 c κs = omega arith
@@ -103,12 +77,7 @@ returns-7 : tie.Need-returns-7
 unfolding scaled
 returns-7 c =
     let at-if1 = c .before .before .before in
-    rw (
-      le-ltb _ _ (at-if1 .if1 .left),
-      le-ltb _ _ (c .before .before .if2 .left),
-      le-ltb _ _ (c .before .if4 .left),
-      ← c .medium4 .ensures,
-    )
+    rw (le-ltb _ _ (at-if1 .if1 .left), le-ltb _ _ (c .before .before .if2 .left), le-ltb _ _ (c .before .if4 .left), ← c .medium4 .ensures)
 
 pub scaled-spec : {M : Type 1} → statement M
 scaled-spec =

@@ -29,14 +29,8 @@ returns-2 : tie.Need-returns-2
 unfolding cos
 returns-2 c =
     let at-abs = c .before .before .before in
-    rw (
-      ← at-abs .before .before .high .ensures,
-      lt-leb _ _ (at-abs .before .if1 .left),
-      ← at-abs .abs .ensures,
-      c .before .before .if2 .taken,
-      ← c .before .rem-pio2 .ensures,
-      ← c .cos-of .ensures,
-    )
+    rw (← at-abs .before .before .high .ensures, lt-leb _ _ (at-abs .before .if1 .left), ← at-abs .abs .ensures, c .before .before .if2 .taken)
+    (rw (← c .before .rem-pio2 .ensures, ← c .cos-of .ensures))
 
 returns-3 : tie.Need-returns-3
 unfolding cos

@@ -27,12 +27,7 @@ returns-3 : tie.Need-returns-3
 unfolding cosOf switch
 returns-3 c =
     let at-if1 = c .before .before .before in
-    rw (
-      ne-eqb _ _ (at-if1 .if1 .left),
-      ne-eqb _ _ (c .before .before .if2 .left),
-      eq-eqb _ _ (c .before .if3 .taken),
-      ← c .k-cos2 .ensures,
-    )
+    rw (ne-eqb _ _ (at-if1 .if1 .left), ne-eqb _ _ (c .before .before .if2 .left), eq-eqb _ _ (c .before .if3 .taken), ← c .k-cos2 .ensures)
 
 k-sin-requires-2 : tie.Need-k-sin-requires-2
 k-sin-requires-2 c κs = search needs
@@ -41,12 +36,7 @@ returns-4 : tie.Need-returns-4
 unfolding cosOf switch
 returns-4 c =
     let at-if1 = c .before .before .before in
-    rw (
-      ne-eqb _ _ (at-if1 .if1 .left),
-      ne-eqb _ _ (c .before .before .if2 .left),
-      ne-eqb _ _ (c .before .if3 .left),
-      ← c .k-sin2 .ensures,
-    )
+    rw (ne-eqb _ _ (at-if1 .if1 .left), ne-eqb _ _ (c .before .before .if2 .left), ne-eqb _ _ (c .before .if3 .left), ← c .k-sin2 .ensures)
 
 pub cos-of-spec : {M : Type 1} → statement M
 cos-of-spec =

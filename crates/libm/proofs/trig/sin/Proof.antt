@@ -33,15 +33,8 @@ unfolding sin
 returns-2 c =
     let at-if2 = c .before .before .before in
     let at-high = at-if2 .before .before .before in
-    rw (
-      ← at-high .high .ensures,
-      lt-leb _ _ (at-if2 .before .before .if1 .left),
-      ← at-if2 .before .abs .ensures,
-      at-if2 .if2 .taken,
-      ← c .before .before .rem-pio2 .ensures,
-      ← c .before .sin-of .ensures,
-      ← c .signed .ensures,
-    )
+    rw (← at-high .high .ensures, lt-leb _ _ (at-if2 .before .before .if1 .left), ← at-if2 .before .abs .ensures, at-if2 .if2 .taken)
+    (rw (← c .before .before .rem-pio2 .ensures, ← c .before .sin-of .ensures, ← c .signed .ensures))
 
 returns-3 : tie.Need-returns-3
 unfolding sin
