@@ -3,6 +3,8 @@
 #ifndef MLAT_SOLVER_H
 #define MLAT_SOLVER_H
 
+#include <stdint.h>
+
 #ifdef __cplusplus
 extern "C" {
 #endif
@@ -17,12 +19,24 @@ double mlat_round(double x);
 double mlat_sin(double x);
 double mlat_cos(double x);
 
-/* Both together: pair[0] is the sine and pair[1] the cosine. */
-void mlat_sincos(double x, double pair[2]);
+/* Both together: both[0] is the sine and both[1] the cosine. */
+void mlat_sincos(double x, double both[2]);
 
-/* The angle of (x, y) from the x axis, and the length of (x, y), by the steps of fdlibm 5.3. */
+/* The angle of the point (x, y) from the x axis, and the length of (x, y), by the steps of fdlibm 5.3. */
 double mlat_atan2(double y, double x);
 double mlat_hypot(double x, double y);
+
+/* WGS 84: latitude and longitude in degrees and height above the ellipsoid in metres, geodetic[0] to [2], to Earth-centred Earth-fixed metres,
+   and back. Each entry of the array that is written is what geo.rs gives, to the bit. */
+void mlat_to_ecef(const double geodetic[3], double ecef[3]);
+void mlat_from_ecef(const double ecef[3], double geodetic[3]);
+
+/* The unit vectors east, north and up at a latitude and longitude, degrees, in ECEF: three after three. */
+void mlat_enu_basis(double lat_deg, double lon_deg, double basis[9]);
+
+/* ECEF metres to whole millimetres: a half away from zero, beyond an end of int64_t that end, 0 for a not-a-number; and back, by one division. */
+void mlat_to_mm(const double ecef[3], int64_t mm[3]);
+void mlat_from_mm(const int64_t mm[3], double ecef[3]);
 
 #ifdef __cplusplus
 }

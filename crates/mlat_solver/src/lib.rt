@@ -1,11 +1,14 @@
 // What is open to callers, under its C names. Each function takes every value and demands nothing.
+// An array that is lent as `&mut` is written whole.
 ghost use mathlib.Core.Path.{_≡_};
-ghost use mathlib.Core.List.{[], _∷_};
 ghost use Rattle.binary64.specs.Root.{root};
 ghost use Rattle.binary64.specs.Rounding.{halfAway};
-ghost use Rattle.libm.specs.Trig.{sin, cos};
+ghost use Rattle.libm.specs.Trig.{sin, cos, sincos};
 ghost use Rattle.libm.specs.Atan.{atan2};
 ghost use Rattle.libm.specs.Hypotenuse.{hypot};
+ghost use Rattle.geo.specs.Geo.{toEcef, fromEcef, enuBasis, toMm, fromMm};
+ghost use Rattle.mlat_solver.specs.Lent.{pairOf, geodeticOf, threeOf, nineOf};
+use geo::Geodetic;
 
 // The binary64 nearest the exact square root, ties to even. -0 gives -0, any other negative number
 // a not-a-number.
@@ -25,7 +28,7 @@ pub extern "C" fn mlat_round(x: f64) -> f64
     binary64::round(x)
 }
 
-// The sine of an angle within ±7 by the steps of fdlibm 5.3; a not-a-number for any other.
+// The sine of an angle within ±7 radians, by fdlibm's steps; beyond that a not-a-number.
 #[no_mangle]
 pub extern "C" fn mlat_sin(x: f64) -> f64
     ensures { λ r. ⌜ r ≡ sin x ⌝ }
@@ -33,7 +36,7 @@ pub extern "C" fn mlat_sin(x: f64) -> f64
     libm::sin(x)
 }
 
-// The cosine of an angle within ±7 by the steps of fdlibm 5.3; a not-a-number for any other.
+// The cosine, likewise.
 #[no_mangle]
 pub extern "C" fn mlat_cos(x: f64) -> f64
     ensures { λ r. ⌜ r ≡ cos x ⌝ }
@@ -41,16 +44,17 @@ pub extern "C" fn mlat_cos(x: f64) -> f64
     libm::cos(x)
 }
 
-// Both together: the sine, then the cosine.
+// Sine and cosine together: both[0] and both[1].
 #[no_mangle]
-pub extern "C" fn mlat_sincos(x: f64, pair: &mut [f64; 2])
-    ensures { λ _. ⌜ now (pair .exit) ≡ sin x ∷ cos x ∷ [] ⌝ }
+pub extern "C" fn mlat_sincos(x: f64, both: &mut [f64; 2])
+    ensures { λ _. ⌜ now (both .exit) ≡ pairOf (sincos x) ⌝ }
 {
-    let both = libm::sincos(x);
-    *pair = [both.sin, both.cos];
+    let r = libm::sincos(x);
+    let pair = [r.sin, r.cos];
+    *both = pair;
 }
 
-// The angle of (x, y) from the x axis, by the steps of fdlibm 5.3.
+// The angle of the point (x, y), by fdlibm's steps.
 #[no_mangle]
 pub extern "C" fn mlat_atan2(y: f64, x: f64) -> f64
     ensures { λ r. ⌜ r ≡ atan2 y x ⌝ }
@@ -58,10 +62,75 @@ pub extern "C" fn mlat_atan2(y: f64, x: f64) -> f64
     libm::atan2(y, x)
 }
 
-// The length of (x, y), by the steps of fdlibm 5.3.
+// The length of (x, y), by fdlibm's steps.
 #[no_mangle]
 pub extern "C" fn mlat_hypot(x: f64, y: f64) -> f64
     ensures { λ r. ⌜ r ≡ hypot x y ⌝ }
 {
     libm::hypot(x, y)
+}
+
+// Degrees, degrees and metres above the WGS 84 ellipsoid to ECEF metres.
+#[no_mangle]
+pub extern "C" fn mlat_to_ecef(geodetic: &[f64; 3], ecef: &mut [f64; 3])
+    ensures { λ _. ⌜ now (ecef .exit) ≡ toEcef (geodeticOf (now (geodetic .entry))) ⌝ }
+{
+    let position = Geodetic {
+        lat_deg: geodetic[0],
+        lon_deg: geodetic[1],
+        height_m: geodetic[2],
+    };
+    *ecef = geo::to_ecef(position);
+}
+
+// The way back.
+#[no_mangle]
+pub extern "C" fn mlat_from_ecef(ecef: &[f64; 3], geodetic: &mut [f64; 3])
+    ensures { λ _. ⌜ now (geodetic .exit) ≡ threeOf (fromEcef (now (ecef .entry))) ⌝ }
+{
+    let position = geo::from_ecef(*ecef);
+    let three = [position.lat_deg, position.lon_deg, position.height_m];
+    *geodetic = three;
+}
+
+// Three rows of three, one after the other.
+fn nine(b: [[f64; 3]; 3]) -> [f64; 9]
+    ensures { λ r. ⌜ r ≡ nineOf b ⌝ }
+{
+    [
+        b[0][0],
+        b[0][1],
+        b[0][2],
+        b[1][0],
+        b[1][1],
+        b[1][2],
+        b[2][0],
+        b[2][1],
+        b[2][2],
+    ]
+}
+
+// The unit vectors east, north and up at a latitude and longitude, in ECEF, one after the other.
+#[no_mangle]
+pub extern "C" fn mlat_enu_basis(lat_deg: f64, lon_deg: f64, basis: &mut [f64; 9])
+    ensures { λ _. ⌜ now (basis .exit) ≡ nineOf (enuBasis «lat_deg» «lon_deg») ⌝ }
+{
+    *basis = nine(geo::enu_basis(lat_deg, lon_deg));
+}
+
+// ECEF metres to whole millimetres: a half away from zero, beyond an end of i64 that end, and 0 for
+// a not-a-number.
+#[no_mangle]
+pub extern "C" fn mlat_to_mm(ecef: &[f64; 3], mm: &mut [i64; 3])
+    ensures { λ _. ⌜ now (mm .exit) ≡ toMm (now (ecef .entry)) ⌝ }
+{
+    *mm = geo::to_mm(*ecef);
+}
+
+// The way back: the nearest f64, then one division.
+#[no_mangle]
+pub extern "C" fn mlat_from_mm(mm: &[i64; 3], ecef: &mut [f64; 3])
+    ensures { λ _. ⌜ now (ecef .exit) ≡ fromMm (now (mm .entry)) ⌝ }
+{
+    *ecef = geo::from_mm(*mm);
 }

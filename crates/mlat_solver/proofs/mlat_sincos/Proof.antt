@@ -1,6 +1,7 @@
--- `mlat_solver::mlat_sincos` meets its contract: the two fields of what `sincos` gives are written in turn. Assumes nothing.
+-- `mlat_solver::mlat_sincos` meets its contract: the array has the fields of what `libm::sincos` gives. Assumes nothing.
+use mathlib.Core.Path.{ap}
 use borrow.Author.Needs.{needs}
-use Rattle.libm.specs.Trig.{sincos}
+use Rattle.mlat_solver.specs.Lent.{pairOf}
 use Rattle.mlat_solver.proofs.mlat_sincos.Statement.{statement}
 use Rattle.mlat_solver.proofs.mlat_sincos.Tie as tie
 
@@ -8,8 +9,7 @@ sincos-requires : tie.Need-sincos-requires
 sincos-requires c κs = search needs
 
 returns : tie.Need-returns
-unfolding sincos
-returns c = rw (c .before .sincos .ensures)
+returns c = ap pairOf (c .sincos .ensures)
 
 pub mlat-sincos-spec : {M : Type 1} → statement M
 mlat-sincos-spec = tie.close (tie.spec sincos-requires returns)

@@ -1,0 +1,6 @@
+-- The laws that the proofs share, and values worked out.
+pub mod Constants
+pub mod NearOne
+pub mod Rounds
+pub mod Cast
+pub mod Edges

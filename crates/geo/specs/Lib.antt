@@ -1,0 +1,2 @@
+pub mod Geo
+pub mod NearOne

@@ -1,0 +1,18 @@
+-- `mlat_solver::mlat_enu_basis` meets its contract: the array has the nine entries of what `geo::enu_basis` gives. Assumes nothing.
+use mathlib.Core.Path.{ap, _∙_}
+use borrow.Author.Needs.{needs}
+use Rattle.mlat_solver.specs.Lent.{nineOf}
+use Rattle.mlat_solver.proofs.mlat_enu_basis.Statement.{statement}
+use Rattle.mlat_solver.proofs.mlat_enu_basis.Tie as tie
+
+enu-basis-requires : tie.Need-enu-basis-requires
+enu-basis-requires c κs = search needs
+
+nine-requires : tie.Need-nine-requires
+nine-requires c κs = search needs
+
+returns : tie.Need-returns
+returns c = c .nine .ensures ∙ ap nineOf (c .before .enu-basis .ensures)
+
+pub mlat-enu-basis-spec : {M : Type 1} → statement M
+mlat-enu-basis-spec = tie.close (tie.spec enu-basis-requires nine-requires returns)
