@@ -30,7 +30,7 @@ impl Random {
     fn within(&mut self, low: f64, high: f64) -> f64 {
         low + (high - low) * ((self.next() >> 11) as f64 / (1u64 << 53) as f64)
     }
-    /// Any finite number: its bits are even.
+    /// A finite number, every one as likely.
     fn any_size(&mut self) -> f64 {
         f64::from_bits(self.next() % 0x7ff0_0000_0000_0000 | self.next() & 1 << 63)
     }
@@ -101,6 +101,6 @@ fn main() {
         println!("{:<15}{count} arguments: {same} the same, {one} at 1 unit, {two} at 2, {more} farther; first at the most, {}: {:?}", pair.name, farthest.0, farthest.1);
         most = most.max(farthest.0);
     }
-    println!("at most {most} units in the last place apart");
+    println!("units in the last place, at the most: {most}");
     std::process::exit((most > 2) as i32);
 }

@@ -19,8 +19,8 @@ double mlat_round(double x);
 double mlat_sin(double x);
 double mlat_cos(double x);
 
-/* Both together: both[0] is the sine and both[1] the cosine. */
-void mlat_sincos(double x, double both[2]);
+/* Both together: pair[0] is the sine and pair[1] the cosine. */
+void mlat_sincos(double x, double pair[2]);
 
 /* The angle of the point (x, y) from the x axis, and the length of (x, y), by the steps of fdlibm 5.3. */
 double mlat_atan2(double y, double x);

@@ -18,7 +18,7 @@ use Rattle.wide.specs.declared.Wide.{Wide}
 use Rattle.wide.proofs.Words.{value-wide, within, above}
 use Rattle.geo.specs.NearOne.{BelowOne}
 
--- m * 2 ^ 53 is m * h * (2 ^ 53 * h) with h * h taken out
+-- h * h taken out
 regroup : (m a h : ℕ) → m * h * (a * h) ≡ m * a * (h * h)
 regroup m a h = omega arith
 

@@ -88,7 +88,7 @@ unfoldable pub roundsTo : Float → Float → ℕ → Iterate
 roundsTo p z zero = record { lat = atan2 z (p ⊗ (one ⊖ E2)); height = nought }
 roundsTo p z (suc k) = roundFrom p z (roundsTo p z k .lat)
 
--- `from_ecef`, "a fixed six rounds"
+-- `from_ecef`. Document 01: "`from_ecef` makes six rounds."
 unfoldable pub fromEcef : List Float → Geodetic
 fromEcef ecef =
     let x = getD ecef 0 nan in
@@ -107,7 +107,7 @@ enuBasis latDeg lonDeg =
     ∷ ((lat .cos ⊗ lon .cos) ∷ (lat .cos ⊗ lon .sin) ∷ lat .sin ∷ [])
     ∷ []
 
--- `(metres * 1000.0).round() as i64`. `toSigned 63` is Rust's cast: past an end of i64 that end, and 0 for a not-a-number.
+-- `(metres * 1000.0).round() as i64`. `toSigned 63` is the cast to i64. Document 01: "`to_mm` saturates at the ends of i64, and a not-a-number gives 0, as Rust's cast does."
 unfoldable pub millimetres : Float → ℤ
 millimetres metres = toSigned 63 (halfAway (metres ⊗ decimal 1000 0))
 

@@ -12,8 +12,8 @@ use crate::A;
 use crate::E2;
 use wide::Wide;
 
-// A value from 1/2 up to 1 that is m times 2^-53 has the bits LESS + m.
-const LESS: u64 = 0x3fd0_0000_0000_0000;
+// A value from 1/2 up to 1 that is m times 2^-53 has the bits OFFSET + m.
+const OFFSET: u64 = 0x3fd0_0000_0000_0000;
 
 // How many times 2^-53 is x, where x lies from 1/2 up to 1, and 0 where it does not.
 fn below_one(x: f64) -> u64
@@ -29,11 +29,11 @@ fn below_one(x: f64) -> u64
     if bits >= 0x3ff0_0000_0000_0000 {
         return 0;
     }
-    bits - LESS
+    bits - OFFSET
 }
 
-// Whether r is the whole number nearest to the root of m * 2^53: (r - 1/2)^2 < m * 2^53 < (r +
-// 1/2)^2, multiplied out.
+// Whether r is the whole number nearest to the root of m * 2^53: whether m * 2^53 lies between
+// (r - 1/2)^2 and (r + 1/2)^2, multiplied out.
 fn nearest(m: u64, r: u64) -> bool
     requires { ⌜ (m < 2 ^ 53) × (r < 2 ^ 53) ⌝ }
     ensures { λ ok. ⌜ (ok ≡ true → Nearest (m * 2 ^ 53) r) ⌝ }
@@ -63,9 +63,9 @@ fn root_at(u: f64, s: f64) -> f64
     binary64::sqrt(u)
 }
 
-// A number near the root of u, which is 1 - w but for rounding, by the binomial series 1 - w / 2 -
-// w^2 / 8 - w^3 / 16 - 5 w^4 / 128 - 7 w^5 / 256 - 21 w^6 / 1024 - .., whose last factor here is
-// greater by what is left out. Nothing is promised of how near it is: only the time that
+// A number near the root of u, which is 1 - w but for rounding, by the binomial series
+// 1 - w/2 - w^2/8 - w^3/16 - 5w^4/128 - 7w^5/256 - 21w^6/1024 - .. Its last factor here is a little
+// greater, for what is left out. Nothing is promised of how near it is: only the time that
 // `prime_vertical` takes turns on it.
 fn guess(u: f64, w: f64) -> f64 {
     let w2 = w * w;

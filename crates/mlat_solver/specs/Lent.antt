@@ -1,14 +1,9 @@
--- The values of libm and geo as the numbers of a lent array, which C has in their place. Definitions only.
+-- The values of geo as the numbers of a lent array, which C has in their place. Definitions only.
 use Prim.Native.Nat.{ℕ}
 use mathlib.Core.List.{List, [], _∷_}
 use lib.ListN.{getD}
 use lib.Ieee.{Float, nan}
-use Rattle.libm.specs.declared.trig.SinCos.{SinCos}
 use Rattle.geo.specs.declared.Geodetic.{Geodetic}
-
--- the sine, then the cosine
-abbrev pub pairOf : SinCos → List Float
-pairOf both = both .sin ∷ both .cos ∷ []
 
 -- latitude, longitude, height
 abbrev pub geodeticOf : List Float → Geodetic

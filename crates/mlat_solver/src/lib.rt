@@ -1,13 +1,14 @@
 // What is open to callers, under its C names. Each function takes every value and demands nothing.
 // An array that is lent as `&mut` is written whole.
 ghost use mathlib.Core.Path.{_≡_};
+ghost use mathlib.Core.List.{[], _∷_};
 ghost use Rattle.binary64.specs.Root.{root};
 ghost use Rattle.binary64.specs.Rounding.{halfAway};
-ghost use Rattle.libm.specs.Trig.{sin, cos, sincos};
+ghost use Rattle.libm.specs.Trig.{sin, cos};
 ghost use Rattle.libm.specs.Atan.{atan2};
 ghost use Rattle.libm.specs.Hypotenuse.{hypot};
 ghost use Rattle.geo.specs.Geo.{toEcef, fromEcef, enuBasis, toMm, fromMm};
-ghost use Rattle.mlat_solver.specs.Lent.{pairOf, geodeticOf, threeOf, nineOf};
+ghost use Rattle.mlat_solver.specs.Lent.{geodeticOf, threeOf, nineOf};
 use geo::Geodetic;
 
 // The binary64 nearest the exact square root, ties to even. -0 gives -0, any other negative number
@@ -28,7 +29,7 @@ pub extern "C" fn mlat_round(x: f64) -> f64
     binary64::round(x)
 }
 
-// The sine of an angle within ±7 radians, by fdlibm's steps; beyond that a not-a-number.
+// The sine of an angle within ±7 by the steps of fdlibm 5.3; a not-a-number for any other.
 #[no_mangle]
 pub extern "C" fn mlat_sin(x: f64) -> f64
     ensures { λ r. ⌜ r ≡ sin x ⌝ }
@@ -36,7 +37,7 @@ pub extern "C" fn mlat_sin(x: f64) -> f64
     libm::sin(x)
 }
 
-// The cosine, likewise.
+// The cosine of an angle within ±7 by the steps of fdlibm 5.3; a not-a-number for any other.
 #[no_mangle]
 pub extern "C" fn mlat_cos(x: f64) -> f64
     ensures { λ r. ⌜ r ≡ cos x ⌝ }
@@ -44,17 +45,16 @@ pub extern "C" fn mlat_cos(x: f64) -> f64
     libm::cos(x)
 }
 
-// Sine and cosine together: both[0] and both[1].
+// Both together: the sine, then the cosine.
 #[no_mangle]
-pub extern "C" fn mlat_sincos(x: f64, both: &mut [f64; 2])
-    ensures { λ _. ⌜ now (both .exit) ≡ pairOf (sincos x) ⌝ }
+pub extern "C" fn mlat_sincos(x: f64, pair: &mut [f64; 2])
+    ensures { λ _. ⌜ now (pair .exit) ≡ sin x ∷ cos x ∷ [] ⌝ }
 {
-    let r = libm::sincos(x);
-    let pair = [r.sin, r.cos];
-    *both = pair;
+    let both = libm::sincos(x);
+    *pair = [both.sin, both.cos];
 }
 
-// The angle of the point (x, y), by fdlibm's steps.
+// The angle of (x, y) from the x axis, by the steps of fdlibm 5.3.
 #[no_mangle]
 pub extern "C" fn mlat_atan2(y: f64, x: f64) -> f64
     ensures { λ r. ⌜ r ≡ atan2 y x ⌝ }
@@ -62,7 +62,7 @@ pub extern "C" fn mlat_atan2(y: f64, x: f64) -> f64
     libm::atan2(y, x)
 }
 
-// The length of (x, y), by fdlibm's steps.
+// The length of (x, y), by the steps of fdlibm 5.3.
 #[no_mangle]
 pub extern "C" fn mlat_hypot(x: f64, y: f64) -> f64
     ensures { λ r. ⌜ r ≡ hypot x y ⌝ }
@@ -89,8 +89,7 @@ pub extern "C" fn mlat_from_ecef(ecef: &[f64; 3], geodetic: &mut [f64; 3])
     ensures { λ _. ⌜ now (geodetic .exit) ≡ threeOf (fromEcef (now (ecef .entry))) ⌝ }
 {
     let position = geo::from_ecef(*ecef);
-    let three = [position.lat_deg, position.lon_deg, position.height_m];
-    *geodetic = three;
+    *geodetic = [position.lat_deg, position.lon_deg, position.height_m];
 }
 
 // Three rows of three, one after the other.

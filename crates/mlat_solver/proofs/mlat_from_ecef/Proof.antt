@@ -9,7 +9,7 @@ from-ecef-requires : tie.Need-from-ecef-requires
 from-ecef-requires c κs = search needs
 
 returns : tie.Need-returns
-returns c = ap threeOf (c .from-ecef .ensures)
+returns c = ap threeOf (c .before .from-ecef .ensures)
 
 pub mlat-from-ecef-spec : {M : Type 1} → statement M
 mlat-from-ecef-spec = tie.close (tie.spec from-ecef-requires returns)

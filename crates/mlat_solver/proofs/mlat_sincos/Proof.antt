@@ -1,7 +1,6 @@
--- `mlat_solver::mlat_sincos` meets its contract: the array has the fields of what `libm::sincos` gives. Assumes nothing.
-use mathlib.Core.Path.{ap}
+-- `mlat_solver::mlat_sincos` meets its contract: the two fields of what `sincos` gives are written in turn. Assumes nothing.
 use borrow.Author.Needs.{needs}
-use Rattle.mlat_solver.specs.Lent.{pairOf}
+use Rattle.libm.specs.Trig.{sincos}
 use Rattle.mlat_solver.proofs.mlat_sincos.Statement.{statement}
 use Rattle.mlat_solver.proofs.mlat_sincos.Tie as tie
 
@@ -9,7 +8,8 @@ sincos-requires : tie.Need-sincos-requires
 sincos-requires c κs = search needs
 
 returns : tie.Need-returns
-returns c = ap pairOf (c .sincos .ensures)
+unfolding sincos
+returns c = rw (c .before .sincos .ensures)
 
 pub mlat-sincos-spec : {M : Type 1} → statement M
 mlat-sincos-spec = tie.close (tie.spec sincos-requires returns)
