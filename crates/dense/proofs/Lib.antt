@@ -1,0 +1,4 @@
+pub mod Places
+pub mod Keeps
+pub mod Columns
+pub mod Units

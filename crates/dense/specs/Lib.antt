@@ -1,0 +1,4 @@
+pub mod Entries
+pub mod Factor
+pub mod Solve
+pub mod Inverse
