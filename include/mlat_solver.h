@@ -3,6 +3,7 @@
 #ifndef MLAT_SOLVER_H
 #define MLAT_SOLVER_H
 
+#include <stddef.h>
 #include <stdint.h>
 
 #ifdef __cplusplus
@@ -37,6 +38,23 @@ void mlat_enu_basis(double lat_deg, double lon_deg, double basis[9]);
 /* ECEF metres to whole millimetres: a half away from zero, beyond an end of int64_t that end, 0 for a not-a-number; and back, by one division. */
 void mlat_to_mm(const double ecef[3], int64_t mm[3]);
 void mlat_from_mm(const int64_t mm[3], double ecef[3]);
+
+/* The chi-square value that the residuals of an exact optimum with dof degrees of freedom may reach, by the steps of solve.rs; 0 for a dof of 0. */
+double mlat_chi2_limit(uint32_t dof);
+
+/* A covariance in ECEF, three rows of three one after the other, in the local east, north, up frame at a position (as geodetic[3] above); and the
+   standard deviation of the horizontal position, metres, which is the root of half the variance of east and north. By the steps of solve.rs. */
+void mlat_enu_covariance(const double position[3], const double covariance[9], double enu[9]);
+double mlat_horizontal_sigma_m(const double position[3], const double covariance[9]);
+
+/* Solves one transmission's problem from the bytes of the four files, receptions, clock, altitude and reference, each with its length, and writes
+   the record of 176 bytes at the start of out. In `present` bit 0 says that there is a clock covariance, bit 1 an altitude, bit 2 a reference:
+   the bytes of an absent one are not read, and further bits mean nothing. Returns the answer number: 0 for a fix, 1 to 15 for a refusal. For 14,
+   where out_len is under 176, nothing is written; bytes past 176 never change. Answer and bytes are what the definition gives for every input;
+   the record of a problem (none of 7 and 10 to 15) is that of the one answer of which demand 3 holds (crates/rounds/specs/Demand.antt).
+   No pointer is NULL, and out overlaps none of the inputs. */
+uint32_t mlat_solve(const uint8_t *receptions, size_t receptions_len, const uint8_t *clock, size_t clock_len, const uint8_t *altitude,
+                    size_t altitude_len, const uint8_t *reference, size_t reference_len, uint32_t present, uint8_t *out, size_t out_len);
 
 #ifdef __cplusplus
 }

@@ -1,7 +1,7 @@
--- The steps of binary64 that every definition of the port is made of: the four operators, constants by their bits, and three small functions. Definitions only.
-use Prim.Native.Nat.{ℕ}
+-- The steps of binary64 that every definition of the port is made of: the four operators, constants by their bits or digits, and three small functions. Definitions only.
+use Prim.Native.Nat.{ℕ, _^_}
 use mathlib.Core.Bool.{Bool, true, false, cond}
-use lib.Ieee.{Float, nan, inf, fin, binary64, add, sub, mul, div, lt, ofBits}
+use lib.Ieee.{Float, nan, inf, fin, binary64, round, add, sub, mul, div, lt, ofBits}
 
 infixl 6 _⊕_ _⊖_
 infixl 7 _⊗_ _⊘_
@@ -22,6 +22,10 @@ x ⊘ y = div binary64 x y
 abbrev pub # : ℕ → Float
 # n = ofBits binary64 n
 
+-- n / 10 ^ d, as Rust reads a decimal literal: the binary64 nearest to it
+abbrev pub decimal : ℕ → ℕ → Float
+decimal n d = round binary64 false n (10 ^ d)
+
 -- 0, from which document 01 has every sum start
 abbrev pub nought : Float
 nought = # 0
@@ -29,6 +33,13 @@ nought = # 0
 -- 1
 abbrev pub one : Float
 one = # 0x3FF0000000000000
+
+-- 0.5 and 2
+abbrev pub half : Float
+half = # 0x3FE0000000000000
+
+abbrev pub two : Float
+two = # 0x4000000000000000
 
 -- Rust's `f64::abs`: the sign cleared
 unfoldable pub abs : Float → Float

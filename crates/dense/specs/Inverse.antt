@@ -3,13 +3,9 @@ use mathlib.Core.List.{List}
 use Prim.Native.Nat.{ℕ, zero, suc, _+_, _-_}
 use lib.ListN.{set, replicate}
 use lib.Ieee.{Float}
-use Rattle.binary64.specs.Steps.{_⊕_, _⊗_, #, nought, one}
+use Rattle.binary64.specs.Steps.{_⊕_, _⊗_, nought, one, half}
 use Rattle.dense.specs.Entries.{nth, at, put}
 use Rattle.dense.specs.Solve.{solve}
-
--- 0.5
-abbrev pub half : Float
-half = # 0x3FE0000000000000
 
 -- `unit`: n zeros, then 1 at `column`
 abbrev pub unit : ℕ → ℕ → List Float

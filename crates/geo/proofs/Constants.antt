@@ -1,8 +1,8 @@
 -- The constants have the bits that the code has: those that Rust's expressions give, computed by the definitions of binary64. Assumes nothing.
 use mathlib.Core.Path.{_≡_, refl, sym, _∙_}
 use lib.Ieee.{Float, round, sub, mul, div, ofBits}
-use Rattle.binary64.specs.Steps.{_⊘_, #}
-use Rattle.geo.specs.Geo.{decimal, A, F, E2, C, radians, degrees}
+use Rattle.binary64.specs.Steps.{_⊘_, #, decimal}
+use Rattle.geo.specs.Geo.{A, F, E2, C, radians, degrees}
 
 pub axis : A ≡ # 0x415854A640000000
 unfolding A round ofBits

@@ -4,7 +4,7 @@ use mathlib.Core.Bool.{true, false}
 use mathlib.Core.List.{[], _∷_}
 use lib.IntN.{pos, negsuc}
 use lib.Ieee.{Float, nan, inf, round, neg, add, sub, mul, div, lt, le, eq, ne, ofInt, toSigned, toUnsigned, ofBits, toBits}
-use Rattle.binary64.specs.Steps.{#, nought, one, abs}
+use Rattle.binary64.specs.Steps.{#, decimal, nought, one, abs}
 use Rattle.binary64.specs.Root.{root}
 use Rattle.binary64.specs.Rounding.{halfAway}
 use Rattle.libm.specs.Words.{high, negative, signed, switch}
@@ -16,7 +16,7 @@ use Rattle.libm.specs.Atan.{reduce, series, atan, signs, quarter, quotient, ata
 use Rattle.libm.specs.Hypotenuse.{scaled, hypot}
 use Rattle.libm.specs.Hypotenuse as length
 use Rattle.geo.specs.declared.Geodetic.{Geodetic}
-use Rattle.geo.specs.Geo.{decimal, A, F, E2, radians, degrees, toRadians, toDegrees, primeVertical, toEcef, height, bowring, roundFrom, roundsTo, fromEcef, enuBasis, millimetres, toMm, metres, fromMm}
+use Rattle.geo.specs.Geo.{A, F, E2, radians, degrees, toRadians, toDegrees, primeVertical, toEcef, height, bowring, roundFrom, roundsTo, fromEcef, enuBasis, millimetres, toMm, metres, fromMm}
 
 abbrev at : Float → Float → Float → Geodetic
 at lat lon h = record { «lat_deg» = lat; «lon_deg» = lon; «height_m» = h }

@@ -1,11 +1,11 @@
 -- geo.rs by the steps of binary64: WGS 84 (NIMA TR8350.2), geodetic position to and from Earth-centred Earth-fixed metres, and the local basis. Definitions only.
-use Prim.Native.Nat.{ℕ, zero, suc, _^_}
-use mathlib.Core.Bool.{false, cond}
+use Prim.Native.Nat.{ℕ, zero, suc}
+use mathlib.Core.Bool.{cond}
 use mathlib.Core.List.{List, [], _∷_}
 use lib.IntN.{ℤ, pos}
 use lib.ListN.{getD}
-use lib.Ieee.{Float, nan, binary64, round, neg, lt, ofInt, toSigned}
-use Rattle.binary64.specs.Steps.{_⊕_, _⊖_, _⊗_, _⊘_, nought, one, abs}
+use lib.Ieee.{Float, nan, binary64, neg, lt, ofInt, toSigned}
+use Rattle.binary64.specs.Steps.{_⊕_, _⊖_, _⊗_, _⊘_, decimal, nought, one, abs}
 use Rattle.binary64.specs.Root.{root}
 use Rattle.binary64.specs.Rounding.{halfAway}
 use Rattle.libm.specs.Trig.{sincos}
@@ -13,10 +13,6 @@ use Rattle.libm.specs.Atan.{atan2}
 use Rattle.libm.specs.Hypotenuse.{hypot}
 use Rattle.geo.specs.declared.Geodetic.{Geodetic}
 use Rattle.geo.specs.declared.Round.{Round}
-
--- n / 10 ^ d, as Rust reads a decimal literal: the binary64 nearest to it
-abbrev pub decimal : ℕ → ℕ → Float
-decimal n d = round binary64 false n (10 ^ d)
 
 -- `A`: the semi-major axis, metres
 unfoldable pub A : Float

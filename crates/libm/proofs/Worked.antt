@@ -2,9 +2,9 @@
 use mathlib.Core.Path.{_≡_, refl}
 use mathlib.Core.Bool.{true, false}
 use lib.Ieee.{nan, inf, add, sub, mul, div, neg, lt, le, eq, ne, ofInt, toUnsigned, ofBits, toBits}
-use Rattle.binary64.specs.Steps.{#, nought, one, abs}
+use Rattle.binary64.specs.Steps.{#, nought, one, two, abs}
 use Rattle.binary64.specs.Root.{root}
-use Rattle.libm.specs.Words.{high, negative, signed, switch, two}
+use Rattle.libm.specs.Words.{high, negative, signed, switch}
 use Rattle.libm.specs.Kernels.{kSin, kCos, qx}
 use Rattle.libm.specs.RemPio2.{npio2Hw, lost, split, stage, remPio2}
 use Rattle.libm.specs.RemPio2 as reduction

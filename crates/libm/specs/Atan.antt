@@ -3,8 +3,8 @@ use Prim.Native.Nat.{ℕ, _+_, _*_, _^_}
 use mathlib.Core.Bool.{cond, _||_, _&&_}
 use lib.Dec.{leb, ltb, eqb}
 use lib.Ieee.{Float, neg, eq, ne}
-use Rattle.binary64.specs.Steps.{_⊕_, _⊖_, _⊗_, _⊘_, #, nought, one, abs}
-use Rattle.libm.specs.Words.{high, negative, signed, switch, half, two}
+use Rattle.binary64.specs.Steps.{_⊕_, _⊖_, _⊗_, _⊘_, #, nought, one, half, two, abs}
+use Rattle.libm.specs.Words.{high, negative, signed, switch}
 use Rattle.libm.specs.declared.atan.Arc.{Arc}
 
 -- the constants of s_atan.c: atanhi[] and atanlo[], the arc tangents of 0.5, 1, 1.5 and infinity in two parts

@@ -3,8 +3,8 @@ use Prim.Native.Nat.{ℕ, _-_}
 use mathlib.Core.Bool.{cond}
 use lib.Dec.{ltb, eqb}
 use lib.Ieee.{Float}
-use Rattle.binary64.specs.Steps.{_⊕_, _⊖_, _⊗_, #, one}
-use Rattle.libm.specs.Words.{high, word, half}
+use Rattle.binary64.specs.Steps.{_⊕_, _⊖_, _⊗_, #, one, half}
+use Rattle.libm.specs.Words.{high, word}
 
 -- the constants of k_sin.c
 abbrev pub S1 : Float

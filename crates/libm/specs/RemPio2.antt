@@ -4,8 +4,8 @@ use mathlib.Core.Bool.{not, cond}
 use lib.IntN.{pos}
 use lib.Dec.{leb, ltb, eqb}
 use lib.Ieee.{Float, binary64, ofInt, toUnsigned}
-use Rattle.binary64.specs.Steps.{_⊕_, _⊖_, _⊗_, #}
-use Rattle.libm.specs.Words.{high, half}
+use Rattle.binary64.specs.Steps.{_⊕_, _⊖_, _⊗_, #, half}
+use Rattle.libm.specs.Words.{high}
 use Rattle.libm.specs.declared.rem_pio2.Reduced.{Reduced}
 use Rattle.libm.specs.declared.rem_pio2.Rest.{Rest}
 

@@ -25,10 +25,3 @@ word h = # (h * 2 ^ 32)
 -- `switch (m) { case 0: return a; case 1: return b; case 2: return c; default: return d; }`
 unfoldable pub switch : ℕ → Float → Float → Float → Float → Float
 switch m a b c d = cond (eqb m 0) a (cond (eqb m 1) b (cond (eqb m 2) c d))
-
--- 0.5 and 2
-abbrev pub half : Float
-half = # 0x3FE0000000000000
-
-abbrev pub two : Float
-two = # 0x4000000000000000

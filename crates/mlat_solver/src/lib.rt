@@ -1,5 +1,8 @@
 // What is open to callers, under its C names. Each function takes every value and demands nothing.
-// An array that is lent as `&mut` is written whole.
+// An array of fixed length that is lent as `&mut` is written whole.
+mod solve;
+
+pub use solve::mlat_solve;
 ghost use mathlib.Core.Path.{_≡_};
 ghost use mathlib.Core.List.{[], _∷_};
 ghost use Rattle.binary64.specs.Root.{root};
@@ -8,7 +11,9 @@ ghost use Rattle.libm.specs.Trig.{sin, cos};
 ghost use Rattle.libm.specs.Atan.{atan2};
 ghost use Rattle.libm.specs.Hypotenuse.{hypot};
 ghost use Rattle.geo.specs.Geo.{toEcef, fromEcef, enuBasis, toMm, fromMm};
-ghost use Rattle.mlat_solver.specs.Lent.{geodeticOf, threeOf, nineOf};
+ghost use Rattle.limits.specs.Limits.{chi2Limit};
+ghost use Rattle.limits.specs.Local.{enuCovariance, horizontalSigmaM};
+ghost use Rattle.mlat_solver.specs.Lent.{geodeticOf, threeOf, nineOf, rowsOf};
 use geo::Geodetic;
 
 // The binary64 nearest the exact square root, ties to even. -0 gives -0, any other negative number
@@ -70,17 +75,23 @@ pub extern "C" fn mlat_hypot(x: f64, y: f64) -> f64
     libm::hypot(x, y)
 }
 
+// Three numbers as a position.
+fn geodetic(three: &[f64; 3]) -> Geodetic
+    ensures { λ r. ⌜ r ≡ geodeticOf (now (three .entry)) ⌝ }
+{
+    Geodetic {
+        lat_deg: three[0],
+        lon_deg: three[1],
+        height_m: three[2],
+    }
+}
+
 // Degrees, degrees and metres above the WGS 84 ellipsoid to ECEF metres.
 #[no_mangle]
-pub extern "C" fn mlat_to_ecef(geodetic: &[f64; 3], ecef: &mut [f64; 3])
-    ensures { λ _. ⌜ now (ecef .exit) ≡ toEcef (geodeticOf (now (geodetic .entry))) ⌝ }
+pub extern "C" fn mlat_to_ecef(position: &[f64; 3], ecef: &mut [f64; 3])
+    ensures { λ _. ⌜ now (ecef .exit) ≡ toEcef (geodeticOf (now (position .entry))) ⌝ }
 {
-    let position = Geodetic {
-        lat_deg: geodetic[0],
-        lon_deg: geodetic[1],
-        height_m: geodetic[2],
-    };
-    *ecef = geo::to_ecef(position);
+    *ecef = geo::to_ecef(geodetic(position));
 }
 
 // The way back.
@@ -132,4 +143,44 @@ pub extern "C" fn mlat_from_mm(mm: &[i64; 3], ecef: &mut [f64; 3])
     ensures { λ _. ⌜ now (ecef .exit) ≡ fromMm (now (mm .entry)) ⌝ }
 {
     *ecef = geo::from_mm(*mm);
+}
+
+// The chi-square value that the residuals of an exact optimum with so many degrees of freedom may
+// reach; 0 for none.
+#[no_mangle]
+pub extern "C" fn mlat_chi2_limit(dof: u32) -> f64
+    ensures { λ r. ⌜ r ≡ chi2Limit dof ⌝ }
+{
+    limits::chi2_limit(dof)
+}
+
+// Nine numbers as three rows of three.
+fn rows(nine: &[f64; 9]) -> [[f64; 3]; 3]
+    ensures { λ r. ⌜ r ≡ rowsOf (now (nine .entry)) ⌝ }
+{
+    [
+        [nine[0], nine[1], nine[2]],
+        [nine[3], nine[4], nine[5]],
+        [nine[6], nine[7], nine[8]],
+    ]
+}
+
+// An ECEF covariance in the local east, north, up frame at the position, row by row.
+#[no_mangle]
+pub extern "C" fn mlat_enu_covariance(
+    position: &[f64; 3],
+    covariance: &[f64; 9],
+    enu: &mut [f64; 9],
+)
+    ensures { λ _. ⌜ now (enu .exit) ≡ nineOf (enuCovariance (geodeticOf (now (position .entry))) (rowsOf (now (covariance .entry)))) ⌝ }
+{
+    *enu = nine(limits::enu_covariance(geodetic(position), rows(covariance)));
+}
+
+// One standard deviation of the horizontal position, metres.
+#[no_mangle]
+pub extern "C" fn mlat_horizontal_sigma_m(position: &[f64; 3], covariance: &[f64; 9]) -> f64
+    ensures { λ r. ⌜ r ≡ horizontalSigmaM (geodeticOf (now (position .entry))) (rowsOf (now (covariance .entry))) ⌝ }
+{
+    limits::horizontal_sigma_m(geodetic(position), rows(covariance))
 }

@@ -11,7 +11,7 @@ use lib.Dec.{T, T-not, not-T, ltb, ltb→lt, lt→ltb, nltb→le}
 use Rattle.sets.specs.Sets.{Subset, first, without, count}
 use Rattle.sets.specs.Choice.{IsChoice, Ranks}
 use Rattle.sets.proofs.Tests.{either, and-l, and-r, and-both}
-use Rattle.sets.proofs.Members.{in-without}
+use Rattle.sets.proofs.Belonging.{in-without}
 use Rattle.sets.proofs.Counting.{count-le, count-pos, count-some, count-without}
 use Rattle.sets.proofs.Choosing.{choose-is}
 use Rattle.screen.specs.Pair.{gap, baseline, passes, timeAt, siteAt, clash, fails}

@@ -13,7 +13,7 @@ use borrow.Author.Tests.{lt-ltb, le-ltb}
 use Rattle.sets.specs.Sets.{Subset, joined}
 use Rattle.sets.specs.Mask.{has}
 use Rattle.sets.proofs.Tests.{either, eq→T, eq→F, and-l, and-r, and-both, lt-suc-cases}
-use Rattle.sets.proofs.Members.{subset-ext, in-joined}
+use Rattle.sets.proofs.Belonging.{subset-ext, in-joined}
 use Rattle.sets.proofs.Digits.{has-zero}
 use Rattle.screen.specs.Pair.{clash, fails}
 use Rattle.screen.specs.Screen.{pairsOf}

@@ -7,7 +7,7 @@ use native.Mathlib.Omega.{arith}
 use lib.Dec.{T, not-T}
 use Rattle.sets.specs.Sets.{Subset, without, bit, count}
 use Rattle.sets.proofs.Tests.{either, same-T, lt-suc-cases}
-use Rattle.sets.proofs.Members.{in-without}
+use Rattle.sets.proofs.Belonging.{in-without}
 
 bit-in : (b : Bool) → T b → bit b ≡ 1
 bit-in true t = refl

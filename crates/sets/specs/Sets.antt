@@ -1,7 +1,9 @@
 -- Sets of receptions. A set is a test on indices: `T (S i)` says that reception i is in S. Definitions only.
-use mathlib.Core.Bool.{Bool, true, false, not, _&&_, _||_}
+use mathlib.Core.Bool.{Bool, true, false, not, cond, _&&_, _||_}
+use mathlib.Core.List.{List}
 use Prim.Native.Nat.{ℕ, zero, suc, _+_}
 use lib.Dec.{ltb, eqb}
+use lib.ListN.{set}
 
 abbrev pub Subset : Type 0
 Subset = ℕ → Bool
@@ -26,3 +28,9 @@ bit false = 0
 unfoldable pub count : Subset → ℕ → ℕ
 count S zero = 0
 count S (suc k) = bit (S k) + count S k
+
+-- `subset` of solve.rs: those of S below n, ascending, in the array index
+unfoldable pub membersTo : Subset → List ℕ → ℕ → List ℕ
+unfolding count
+membersTo S index zero = index
+membersTo S index (suc i) = let known = membersTo S index i in cond (S i) (set known (count S i) i) known

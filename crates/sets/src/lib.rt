@@ -1,7 +1,7 @@
 // Sets of up to 32 receptions as masks: bit i is set where reception i, from 0, is in the set.
 ghost use mathlib.Core.Path.{_≡_};
 ghost use Prim.Native.Nat.{ℕ, _^_, _≤_, _<_};
-ghost use Rattle.sets.specs.Sets.{first, joined, without, count};
+ghost use Rattle.sets.specs.Sets.{first, joined, without, count, membersTo};
 ghost use Rattle.sets.specs.Mask.{has};
 
 // Stands for no reception where an index is one of 0 to 31.
@@ -47,4 +47,19 @@ pub fn count(mask: u32) -> u32
     ensures { λ r. ⌜ r ≡ count (has mask) 32 ⌝ }
 {
     u32::count_ones(mask)
+}
+
+// The receptions of the set below n, ascending, into index. Gives how many.
+pub fn members(mask: u32, n: usize, index: &mut [usize; 32]) -> usize
+    requires { ⌜ n ≤ 32 ⌝ }
+    ensures { λ r. ⌜ (r ≡ count (has mask) n) × (now (index .exit) ≡ membersTo (has mask) (now (index .entry)) n) ⌝ }
+{
+    let mut k = 0usize;
+    for i in 0..n {
+        if has(mask, i) {
+            index[k] = i;
+            k += 1;
+        }
+    }
+    k
 }

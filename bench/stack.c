@@ -1,0 +1,50 @@
+/* The most stack that mlat_solve uses on the recorded problems of standard input (crates/replay/RECORDING.md has their layout): each is solved on a stack
+   that was painted before, and what is not paint afterwards was used. A thread that does nothing shows its own share. */
+#define _GNU_SOURCE
+#include <pthread.h>
+#include <stdio.h>
+#include <stdlib.h>
+#include <string.h>
+#include "mlat_solver.h"
+
+enum { STACK = 1 << 20, PAINT = 0xa5 };
+
+static uint8_t recording[1 << 22], *at;
+static int stop;
+
+static void *solve(void *unused) {
+    uint8_t out[176];
+    if (stop) return unused;
+    size_t receptions = at[0] | at[1] << 8, clock = at[2] | at[3] << 8, altitude = at[4], reference = at[5];
+    uint8_t *r = at + 8, *c = r + receptions, *a = c + clock, *f = a + altitude;
+    mlat_solve(r, receptions, c, clock, a, altitude, f, reference, at[6], out, sizeof out);
+    at = f + reference + 176;
+    return unused;
+}
+
+static size_t used(uint8_t *stack) {
+    pthread_attr_t attributes;
+    pthread_t thread;
+    memset(stack, PAINT, STACK);
+    pthread_attr_init(&attributes);
+    pthread_attr_setstack(&attributes, stack, STACK);
+    if (pthread_create(&thread, &attributes, solve, NULL)) exit(1);
+    pthread_join(thread, NULL);
+    size_t k = 0;
+    while (k < STACK && stack[k] == PAINT) k++;
+    return STACK - k;
+}
+
+int main(void) {
+    uint8_t *stack = aligned_alloc(4096, STACK);
+    uint8_t *end = recording + fread(recording, 1, sizeof recording, stdin);
+    size_t most = 0, problems = 0;
+    for (at = recording; at < end; problems++) {
+        size_t now = used(stack);
+        if (most < now) most = now;
+    }
+    stop = 1;
+    size_t bare = used(stack);
+    printf("%zu problems: at most %zu bytes of stack, %zu of them the thread's own\n", problems, most, bare);
+    return 0;
+}

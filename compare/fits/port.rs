@@ -1,0 +1,32 @@
+//! The port's functions by their C names.
+
+#[rustfmt::skip]
+extern "C" {
+    pub fn fit_covariance(clock_m2: &[f64; 1024], n: usize, noise_m2: &[f64; 32], index: &[usize; 32], k: usize, sigma: &mut [f64; 1024]);
+    pub fn fit_whitener(clock_m2: &[f64; 1024], n: usize, noise_m2: &[f64; 32], index: &[usize; 32], k: usize, l: &mut [f64; 1024]) -> bool;
+    pub fn fit_sigma(clock_m2: &[f64; 1024], n: usize, noise_m2: &[f64; 32], i: usize) -> f64;
+    pub fn fit_residual(sites: &[f64; 96], z: &[f64; 32], i: usize, params: &[f64; 4]) -> f64;
+    pub fn fit_whitened(
+        sites: &[f64; 96], z: &[f64; 32], k: usize, l: &[f64; 1024], kind: u32, metres: f64, params: &[f64; 4],
+        r: &mut [f64; 33], a: &mut [f64; 33], b: &mut [f64; 33], c: &mut [f64; 33], d: &mut [f64; 33],
+    ) -> usize;
+    pub fn fit_normal(
+        r: &[f64; 33], a: &[f64; 33], b: &[f64; 33], c: &[f64; 33], d: &[f64; 33], count: usize,
+        information: &mut [f64; 16], gradient: &mut [f64; 4],
+    ) -> f64;
+    fn fit_levenberg_marquardt(
+        sites: &[f64; 96], z: &[f64; 32], k: usize, l: &[f64; 1024], kind: u32, metres: f64, start: &[f64; 4],
+        params: &mut [f64; 4], cost: &mut f64, information: &mut [f64; 16],
+    ) -> bool;
+}
+
+use oracle::parts::{Chosen, Fitted, MARK};
+
+/// The fit, and whether there is one.
+pub fn levenberg_marquardt(chosen: &Chosen, l: &[f64; 1024], altitude: (u8, f64), start: &[f64; 4]) -> (bool, Fitted) {
+    let mut fit = Fitted { params: [MARK; 4], cost: MARK, information: [MARK; 16] };
+    let (kind, metres) = (u32::from(altitude.0), altitude.1);
+    let Fitted { params, cost, information } = &mut fit;
+    let ok = unsafe { fit_levenberg_marquardt(&chosen.sites, &chosen.z, chosen.k, l, kind, metres, start, params, cost, information) };
+    (ok, fit)
+}

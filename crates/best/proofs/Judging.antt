@@ -1,0 +1,83 @@
+-- The best, as an index that code holds, and what is made of it. Assumes nothing.
+use mathlib.Core.Path.{_≡_, sym, ap, ap₂, _∙_}
+use mathlib.Core.Option.{Option, none, some}
+use mathlib.Core.Bool.{Bool, true, false, not, _&&_}
+use mathlib.Core.List.{List, map}
+use Prim.Native.Nat.{ℕ, _≤_, _<_}
+use lib.Dec.{ltb}
+use lib.ListN.{length}
+use lib.Ieee.{Float}
+use Rattle.dense.specs.Factor as factor
+use Rattle.dense.specs.Factor.{verdict}
+use Rattle.linalg.specs.Methods.{zeros}
+use Rattle.problem.specs.declared.Altitude.{Altitude}
+use Rattle.whitening.specs.Covariance.{whitener}
+use Rattle.whitening.specs.Whitened.{chosen}
+use Rattle.sets.specs.Sets.{Subset, count}
+use Rattle.sets.specs.Choice.{choose, indexOf}
+use Rattle.sets.proofs.Choosing.{chosen-some, chosen-none, chosen-below}
+use Rattle.damped.specs.declared.Fit.{Fit}
+use Rattle.damped.specs.Damped.{levenbergMarquardt}
+use Rattle.best.specs.declared.Unfit.the-variants.{NoConvergence, OutOfRange, Ambiguous, Singular}
+use Rattle.best.specs.Best.{Outcome, found, unfit, costlier, apart, fitAt, cheaper, converged, weighed, rivals, bestOf, judged, best, whitened, bestFit}
+
+-- what the code holds of the fits: how many they are, the set S of those that are weighed, and the index of the best, which is 32 for none
+pub record Held (sites : List Float) (k : ℕ) (fits : List Fit) (n top : ℕ) (S : Subset) : Type 0 where
+  pub few : n ≤ 32
+  pub all : length fits ≡ n
+  pub set : S ≡ (λ i. weighed sites k (fitAt fits i))
+  pub index : top ≡ indexOf (choose S (cheaper fits) n)
+
+module _ (sites : List Float) (k : ℕ) (fits : List Fit) (n top : ℕ) (S : Subset) (held : Held sites k fits n top S) where
+  abbrev answer : Outcome
+  answer = judged sites k fits (bestOf sites k fits)
+
+  chosen-is : (o : Option ℕ) → choose S (cheaper fits) n ≡ o → bestOf sites k fits ≡ o
+  chosen-is o e = ap₂ (λ (R : Subset) (m : ℕ). choose R (cheaper fits) m) (sym (held .set)) (held .all) ∙ e
+
+  some-is : top < 32 → bestOf sites k fits ≡ some top
+  some-is h = chosen-is (some top) (chosen-some S (cheaper fits) n top (held .few) (held .index) h)
+
+  none-is : 32 ≤ top → bestOf sites k fits ≡ none
+  none-is h = chosen-is none (chosen-none S (cheaper fits) n top (held .few) (held .index) h)
+
+  pub below : top < 32 → top < n
+  below h = chosen-below S (cheaper fits) n top (held .few) (held .index) h
+
+  module _ (r : Bool) (h : top < 32) (fit : Fit) (f : fit ≡ fitAt fits top) (e : r ≡ ltb 0 (count (λ i. S i && (not (costlier fit (fitAt fits i)) && apart fit (fitAt fits i))) n)) where
+    rivalled : r ≡ ltb 0 (rivals sites k fits (fitAt fits top))
+    rivalled =
+        e ∙ ap₂ (λ (R : Subset) (m : ℕ). ltb 0 (count (λ i. R i && (not (costlier fit (fitAt fits i)) && apart fit (fitAt fits i))) m)) (held .set) (sym (held .all))
+        ∙ ap (λ (x : Fit). ltb 0 (rivals sites k fits x)) f
+
+    pub ambiguous : r ≡ true → unfit Ambiguous ≡ answer
+    ambiguous g = rw (some-is h, ← rivalled, g)
+
+    pub alone : r ≡ false → found fit ≡ answer
+    alone g = rw (some-is h, ← rivalled, g) (ap found f)
+
+  module _ (r : Bool) (h : 32 ≤ top) (e : r ≡ ltb 0 (converged fits)) where
+    pub out-of-range : r ≡ true → unfit OutOfRange ≡ answer
+    out-of-range g = rw (none-is h, ← e, g)
+
+    pub no-convergence : r ≡ false → unfit NoConvergence ≡ answer
+    no-convergence g = rw (none-is h, ← e, g)
+
+-- ---- the whitener first, whose answer the code holds as a flag b beside the array l
+module _ (clock : List Float) (n : ℕ) (noise : List Float) (index : List ℕ) (sites z : List Float) (k : ℕ) (altitude : Altitude) (starts : List (List Float))
+    (b : Bool) (l : List Float) (e : verdict b l ≡ whitener clock n noise index k zeros) (o : Outcome) where
+  abbrev outcome : Outcome
+  outcome = bestFit clock n noise index sites z k altitude starts
+
+  told-by : verdict b l ≡ whitener clock n noise index k zeros → whitened (verdict b l) (λ w. best (chosen k sites z w altitude) starts) ≡ outcome
+  unfolding bestFit
+  told-by f = ap (λ (F : factor.Factor). whitened F (λ w. best (chosen k sites z w altitude) starts)) f
+
+  pub whitened-found : b ≡ true → (fits : List Fit) → fits ≡ map (levenbergMarquardt (chosen k sites z l altitude)) starts → o ≡ judged sites k fits (bestOf sites k fits) → o ≡ outcome
+  unfolding best
+  whitened-found t fits f g =
+      g ∙ ap (λ (fs : List Fit). judged sites k fs (bestOf sites k fs)) f
+      ∙ ap (λ (x : Bool). whitened (verdict x l) (λ w. best (chosen k sites z w altitude) starts)) (sym t) ∙ told-by e
+
+  pub whitened-refused : b ≡ false → o ≡ unfit Singular → o ≡ outcome
+  whitened-refused t g = g ∙ ap (λ (x : Bool). whitened (verdict x l) (λ w. best (chosen k sites z w altitude) starts)) (sym t) ∙ told-by e

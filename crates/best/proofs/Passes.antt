@@ -1,0 +1,129 @@
+-- What each loop over the fits has found, and what one fit more adds. Assumes nothing.
+use mathlib.Core.Path.{_≡_, refl, sym, ap, ap₂, subst, fun-ext, _∙_}
+use mathlib.Core.Logic.{_⊎_, inl, inr}
+use mathlib.Core.Bool.{Bool, true, false, not, _&&_, _||_}
+use mathlib.Core.List.{List, [], _∷_, _++_, map, map-append}
+use Prim.Native.Nat.{ℕ, suc, _+_, _≤_, _<_, min}
+use native.Mathlib.Omega.{arith}
+use native.Mathlib.Numerals.{add-one}
+use lib.Dec.{T, ltb, leb, eqb, ltb→lt, nltb→le}
+use lib.ListN.{length, set, take, length-take, List·getD-eq-default}
+use lib.Seq.{take-suc-set, getD-take}
+use lib.Ieee.{Float, le}
+use borrow.Author.Tests.{le-leb, lt-leb, lt-ltb, eq-eqb, ne-eqb}
+use Rattle.sets.specs.Sets.{Subset, joined, count}
+use Rattle.sets.specs.Mask.{has}
+use Rattle.sets.specs.Choice.{choose, indexOf}
+use Rattle.sets.proofs.Tests.{either}
+use Rattle.sets.proofs.Digits.{has-zero}
+use Rattle.sets.proofs.Choosing.{skips, begins, takes, leaves}
+use Rattle.damped.specs.declared.Fit.{Fit}
+use Rattle.starts.specs.Points.{point}
+use Rattle.best.specs.Best.{nothing, fitAt, cheaper, pointsTo}
+
+or-true : (a : Bool) → (a || true) ≡ true
+or-true true = refl
+or-true false = refl
+
+or-false : (a : Bool) → (a || false) ≡ a
+or-false true = refl
+or-false false = refl
+
+-- one index more: some index below it passes, or it does
+pub any-turn : (S : Subset) (i : ℕ) → (ltb 0 (count S i) || S i) ≡ ltb 0 (count S (i + 1))
+unfolding count
+any-turn S i = go (S i) refl ∙ ap (λ (x : ℕ). ltb 0 (count S x)) (sym (add-one i))
+  where
+    go : (b : Bool) → S i ≡ b → (ltb 0 (count S i) || S i) ≡ ltb 0 (count S (suc i))
+    go true e = rw e (or-true (ltb 0 (count S i)) ∙ sym (lt-ltb 0 (1 + count S i) (omega arith)))
+    go false e = let z : count S i ≡ 0 + count S i = omega arith in rw e (or-false (ltb 0 (count S i)) ∙ ap (ltb 0) z)
+
+-- the same, of what a loop holds: b of the indices below i, t of i, and r of both
+pub any-next : (S : Subset) (i : ℕ) (b t r : Bool) → b ≡ ltb 0 (count S i) → t ≡ S i → r ≡ (b || t) → r ≡ ltb 0 (count S (i + 1))
+any-next S i b t r e f g = g ∙ ap₂ (λ (x y : Bool). x || y) e f ∙ any-turn S i
+
+-- ---- the fits from the starts
+pub fits-turn : (f : List Float → Fit) (at : List Float) (fits : List Fit) (i : ℕ) (fit : Fit) → i < length fits
+    → take i fits ≡ map f (pointsTo at i) → fit ≡ f (point at i) → take (i + 1) (set fits i fit) ≡ map f (pointsTo at (i + 1))
+unfolding pointsTo
+fits-turn f at fits i fit l e g =
+    ap (λ (x : ℕ). take x (set fits i fit)) (add-one i) ∙ take-suc-set fits i fit l ∙ ap₂ (λ (a b : List Fit). a ++ b) e (ap (λ (x : Fit). x ∷ []) g)
+    ∙ sym (map-append f (pointsTo at i) (point at i ∷ [])) ∙ ap (λ (x : ℕ). map f (pointsTo at x)) (sym (add-one i))
+
+-- ---- the mask of those that pass a test
+module _ (p : Fit → Bool) (none : p nothing ≡ false) (fits : List Fit) where
+  abbrev passing : ℕ → Subset
+  passing i j = p (fitAt (take i fits) j)
+
+  before : (i j : ℕ) → j < i → passing i j ≡ p (fitAt fits j)
+  before i j h = ap p (getD-take i fits j nothing h)
+
+  past : (i j : ℕ) → i ≤ j → passing i j ≡ false
+  past i j h = ap p (List·getD-eq-default (take i fits) nothing (let e = length-take i fits in short e)) ∙ none
+    where
+      short : length (take i fits) ≡ min i (length fits) → length (take i fits) ≤ j
+      short e = omega arith
+
+  pub mask-start : has 0 ≡ passing 0
+  mask-start = fun-ext (λ (j : ℕ). has-zero j ∙ sym (past 0 j (omega arith)))
+
+  pub mask-joins : (i : ℕ) → p (fitAt fits i) ≡ true → joined (passing i) i ≡ passing (i + 1)
+  unfolding joined
+  mask-joins i e = fun-ext (λ (j : ℕ). go j (either (ltb j i)) (either (ltb i j)))
+    where
+      go : (j : ℕ) → T (ltb j i) ⊎ T (not (ltb j i)) → T (ltb i j) ⊎ T (not (ltb i j)) → (passing i j || eqb j i) ≡ passing (i + 1) j
+      go j (inl l) q = let h = ltb→lt j i l in rw (ne-eqb j i (λ d. omega arith), before i j h, before (i + 1) j (omega arith)) (or-false (p (fitAt fits j)))
+      go j (inr g) (inl l) = let h = ltb→lt i j l in rw (ne-eqb j i (λ d. omega arith), past i j (omega arith), past (i + 1) j (omega arith))
+      go j (inr g) (inr q) =
+          let d : j ≡ i = omega (arith, nltb→le j i g, nltb→le i j q) in
+          rw d (rw (eq-eqb i i refl, past i i (omega arith), before (i + 1) i (omega arith), e))
+
+  pub mask-stays : (i : ℕ) → p (fitAt fits i) ≡ false → passing i ≡ passing (i + 1)
+  mask-stays i e = fun-ext (λ (j : ℕ). go j (either (ltb j i)) (either (ltb i j)))
+    where
+      go : (j : ℕ) → T (ltb j i) ⊎ T (not (ltb j i)) → T (ltb i j) ⊎ T (not (ltb i j)) → passing i j ≡ passing (i + 1) j
+      go j (inl l) q = let h = ltb→lt j i l in before i j h ∙ sym (before (i + 1) j (omega arith))
+      go j (inr g) (inl l) = let h = ltb→lt i j l in past i j (omega arith) ∙ sym (past (i + 1) j (omega arith))
+      go j (inr g) (inr q) =
+          let d : j ≡ i = omega (arith, nltb→le j i g, nltb→le i j q) in
+          rw d (past i i (omega arith) ∙ sym e ∙ sym (before (i + 1) i (omega arith)))
+
+-- ---- the choice: the index so far, or 32, and its cost beside it
+module _ (S : Subset) (fits : List Fit) where
+  pub record Top (i top : ℕ) (least : Float) : Type 0 where
+    pub index : top ≡ indexOf (choose S (cheaper fits) i)
+    pub cost : top < 32 → least ≡ fitAt fits top .cost
+
+  pub top-start : (least : Float) → Top 0 32 least
+  unfolding choose
+  top-start least = record { index = refl; cost = λ h. absurd (omega arith) }
+
+  module _ (i top : ℕ) (least cost : Float) (h : i < 32) (e : cost ≡ fitAt fits i .cost) (t : Top i top least) (r : Bool) (f : r ≡ (S i && (leb 32 top || not (le least cost)))) where
+    beaten : top < 32 → r ≡ (S i && cheaper fits i top)
+    beaten l = f ∙ rw (lt-leb 32 top l, t .cost l, e)
+
+    pub top-taken : r ≡ true → Top (i + 1) i cost
+    top-taken g = record { index = go (S i) refl (either (ltb top 32)); cost = λ l. e }
+      where
+        no : false ≡ true → ⊥
+        no z = subst T (sym z) tt
+
+        go : (s : Bool) → S i ≡ s → T (ltb top 32) ⊎ T (not (ltb top 32)) → i ≡ indexOf (choose S (cheaper fits) (i + 1))
+        go false d q = absurd (no (ap (λ (x : Bool). x && (leb 32 top || not (le least cost))) (sym d) ∙ sym f ∙ g))
+        go true d (inl l) =
+            let m = ltb→lt top 32 l in
+            takes S (cheaper fits) i top (omega arith) (t .index) d m (ap (λ (x : Bool). x && cheaper fits i top) (sym d) ∙ sym (beaten m) ∙ g)
+        go true d (inr m) = begins S (cheaper fits) i top (omega arith) (t .index) d (nltb→le top 32 m)
+
+    pub top-left : r ≡ false → Top (i + 1) top least
+    top-left g = record { index = go (S i) refl (either (ltb top 32)); cost = t .cost }
+      where
+        no : true ≡ false → ⊥
+        no z = subst T z tt
+
+        go : (s : Bool) → S i ≡ s → T (ltb top 32) ⊎ T (not (ltb top 32)) → top ≡ indexOf (choose S (cheaper fits) (i + 1))
+        go false d q = skips S (cheaper fits) i top (omega arith) (t .index) d
+        go true d (inl l) =
+            let m = ltb→lt top 32 l in
+            leaves S (cheaper fits) i top (omega arith) (t .index) d m (ap (λ (x : Bool). x && cheaper fits i top) (sym d) ∙ sym (beaten m) ∙ g)
+        go true d (inr m) = absurd (no (sym (rw (d, le-leb 32 top (nltb→le top 32 m)) at f) ∙ g))

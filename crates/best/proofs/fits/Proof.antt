@@ -1,0 +1,75 @@
+-- `best::fits` meets its contract. The invariant: the first i places hold the fits from the first i starts. A turn stores one more (`fits-turn`). Assumes nothing.
+use borrow.Author.Needs.{needs}
+use mathlib.Core.Path.{_≡_, refl, _∙_}
+use mathlib.Core.List.{map}
+use Prim.Native.Nat.{_≤_, _-_}
+use native.Mathlib.Omega.{arith}
+use lib.ListN.{length, take, length-set}
+use Rattle.whitening.specs.Whitened.{chosen}
+use Rattle.damped.specs.Damped.{levenbergMarquardt}
+use Rattle.best.specs.Best.{pointsTo}
+use Rattle.best.proofs.Passes.{fits-turn}
+use Rattle.best.proofs.fits.Statement.{statement}
+use Rattle.best.proofs.fits.Tie as tie
+
+abbrev Inv-loop : tie.InvT-loop
+Inv-loop sites z k l altitude at count fits₀ i₀ fits i = (i ≤ count) × (length fits ≡ 18) × (take i fits ≡ map (levenbergMarquardt (chosen k sites z l altitude)) (pointsTo at i))
+
+abbrev μ-loop : tie.MeasureT-loop
+μ-loop sites z k l altitude at count fits₀ i₀ fits i = count - i
+
+no-fit-requires : tie.Need-no-fit-requires Inv-loop μ-loop
+no-fit-requires c κs = search needs
+
+loop-holds : tie.Need-loop-holds Inv-loop μ-loop
+unfolding pointsTo
+loop-holds c = (search needs, refl, refl)
+
+point-requires : tie.Need-point-requires Inv-loop μ-loop
+point-requires c κs = search needs
+
+levenberg-marquardt-requires : tie.Need-levenberg-marquardt-requires Inv-loop μ-loop
+levenberg-marquardt-requires c κs = search needs
+
+mul-fits : tie.Need-mul-fits Inv-loop μ-loop
+mul-fits c = search needs
+
+array-set-from-fits : tie.Need-array-set-from-fits Inv-loop μ-loop
+array-set-from-fits c = search needs
+
+add-i : tie.Need-add-i Inv-loop μ-loop
+add-i c = search needs
+
+loop-less : tie.Need-loop-less Inv-loop μ-loop
+loop-less c = search needs
+
+loop-again : tie.Need-loop-again Inv-loop μ-loop
+loop-again c =
+    let s = c .before .before .before .before .before .args in
+    let at = c .before .before .before .loop in
+    let fit = c .levenberg-marquardt in (
+      omega arith,
+      length-set (at .fits) (at .i) (fit .result) ∙ at .inv .1,
+      fits-turn (levenbergMarquardt (chosen (s .k) (s .sites .now) (s .z .now) (s .l .now) (s .altitude))) (s .at .now) (at .fits) (at .i) (fit .result) (omega (arith, at .inv .1)) (at .inv .2) (rw (← c .before .point .ensures) (fit .ensures)),
+    )
+
+returns : tie.Need-returns Inv-loop μ-loop
+returns c =
+    let e : c .before .loop .i ≡ c .before .before .before .args .count = omega arith in (c .before .loop .inv .1, rw e at (c .before .loop .inv .2))
+
+pub fits-spec : {M : Type 1} → statement M
+fits-spec =
+    tie.close
+    (tie.spec
+    Inv-loop
+    μ-loop
+    no-fit-requires
+    loop-holds
+    point-requires
+    levenberg-marquardt-requires
+    mul-fits
+    array-set-from-fits
+    add-i
+    loop-less
+    loop-again
+    returns)

@@ -1,0 +1,112 @@
+-- `best_fit` of solve.rs, over the fits from a list of starts. Definitions only.
+use mathlib.Core.Bool.{Bool, false, not, cond, _&&_}
+use mathlib.Core.List.{List, [], _∷_, _++_, map}
+use mathlib.Core.Option.{Option, none, some}
+use Prim.Native.Nat.{ℕ, zero, suc}
+use lib.Dec.{ltb}
+use lib.ListN.{length, getD, replicate}
+use lib.Ieee.{Float, nan, lt, le}
+use Rattle.binary64.specs.Steps.{_⊕_, _⊖_, decimal, nought}
+use Rattle.dense.specs.Entries.{nth, dots, mulVec}
+use Rattle.dense.specs.Factor as factor
+use Rattle.linalg.specs.Methods.{zeros}
+use Rattle.sets.specs.Sets.{count}
+use Rattle.sets.specs.Choice.{choose}
+use Rattle.problem.specs.declared.Altitude.{Altitude}
+use Rattle.problem.specs.Problem.{four}
+use Rattle.limits.specs.Limits.{chi2Limit}
+use Rattle.whitening.specs.Covariance.{whitener}
+use Rattle.whitening.specs.Whitened.{Chosen, chosen}
+use Rattle.damped.specs.declared.Fit.{Fit}
+use Rattle.damped.specs.Damped.{levenbergMarquardt}
+use Rattle.starts.specs.Points.{point}
+use Rattle.best.specs.declared.Unfit.{Unfit}
+use Rattle.best.specs.declared.Unfit.the-variants.{NoConvergence, OutOfRange, Ambiguous, Singular}
+use Rattle.best.specs.declared.Best.{Best}
+use Rattle.best.specs.Plausible.{plausible}
+
+-- `Result<Fit, SolveError>`: the best fit, or why there is none
+pub data Outcome : Type 0 where
+  found : Fit → Outcome
+  unfit : Unfit → Outcome
+
+-- as the code tells it
+abbrev pub told : Best → Outcome
+told r = cond (r .found) (found (r .fit)) (unfit (r .why))
+
+-- `AMBIGUOUS_COST`
+unfoldable pub ambiguousCost : Float
+ambiguousCost = decimal 9 0
+
+-- `other.cost > best.cost + AMBIGUOUS_COST`. Document 01: "Cost equal to best plus 9 is still weighed".
+abbrev pub costlier : Fit → Fit → Bool
+costlier best other = lt (best .cost ⊕ ambiguousCost) (other .cost)
+
+-- "squared Mahalanobis distance of the four parameters under the best's information": delta · (information delta)
+unfoldable pub distance : Fit → Fit → Float
+distance best other =
+    let delta = four (λ i. nth (other .params) i ⊖ nth (best .params) i) in
+    dots (nth delta) (nth (mulVec (best .information) 4 delta (replicate 4 nought))) 4
+
+-- "outside the best's own 10^-6 ellipsoid": `distance > limit`
+abbrev pub apart : Fit → Fit → Bool
+apart best other = lt (chi2Limit 4) (distance best other)
+
+-- no fit, which is what lies past the last of a list
+abbrev pub nothing : Fit
+nothing = record { ok = false; params = []; cost = nan; information = [] }
+
+abbrev pub fitAt : List Fit → ℕ → Fit
+fitAt fits i = getD fits i nothing
+
+-- the i-th replaces the top, unless its cost is at least the top's: `fits[index].cost >= fits[top].cost`
+abbrev pub cheaper : List Fit → ℕ → ℕ → Bool
+cheaper fits i top = not (le (fitAt fits top .cost) (fitAt fits i .cost))
+
+-- how many converged
+abbrev pub converged : List Fit → ℕ
+converged fits = count (λ i. fitAt fits i .ok) (length fits)
+
+-- with the k sites of the receptions used
+module _ (sites : List Float) (k : ℕ) where
+  -- a fit that `fits` of `best_fit` holds: it converged, and is plausible
+  abbrev pub weighed : Fit → Bool
+  weighed fit = fit .ok && plausible sites k (fit .params)
+
+  -- Document 01: "A rival is a fit .. that converged, costs at most the best fit's cost plus 9 and meets the other tests by which `best_fit` answers 8."
+  abbrev pub rival : Fit → Fit → Bool
+  rival best other = weighed other && (not (costlier best other) && apart best other)
+
+  module _ (fits : List Fit) where
+    -- the `fold`: "the lowest cost, ties to the earlier start"
+    abbrev pub bestOf : Option ℕ
+    bestOf = choose (λ i. weighed (fitAt fits i)) (cheaper fits) (length fits)
+
+    -- how many rivals a fit has among them
+    abbrev pub rivals : Fit → ℕ
+    rivals best = count (λ i. rival best (fitAt fits i)) (length fits)
+
+    -- what `best_fit` makes of them
+    abbrev pub judged : Option ℕ → Outcome
+    judged none = unfit (cond (ltb 0 (converged fits)) OutOfRange NoConvergence)
+    judged (some i) = cond (ltb 0 (rivals (fitAt fits i))) (unfit Ambiguous) (found (fitAt fits i))
+
+-- the best fit from a list of starts
+unfoldable pub best : Chosen → List (List Float) → Outcome
+best C starts =
+    let fits = map (levenbergMarquardt C) starts in
+    judged (C .sites) (C .k) fits (bestOf (C .sites) (C .k) fits)
+
+-- `whitener(subset).ok_or(SolveError::Singular)?` comes before the fits
+abbrev pub whitened : factor.Factor → (List Float → Outcome) → Outcome
+whitened (factor.found l) fit = fit l
+whitened (factor.refused l) fit = unfit Singular
+
+-- `best_fit`, of the k receptions of `index`
+unfoldable pub bestFit : List Float → ℕ → List Float → List ℕ → List Float → List Float → ℕ → Altitude → List (List Float) → Outcome
+bestFit clock n noise index sites z k altitude starts = whitened (whitener clock n noise index k zeros) (λ l. best (chosen k sites z l altitude) starts)
+
+-- the first k starts of the array that holds them
+unfoldable pub pointsTo : List Float → ℕ → List (List Float)
+pointsTo at zero = []
+pointsTo at (suc i) = pointsTo at i ++ (point at i ∷ [])

@@ -1,0 +1,4 @@
+pub mod Plausible
+pub mod Best
+pub mod OfProblem
+pub mod Meaning

@@ -1,0 +1,81 @@
+-- What the best fit is, in words that know nothing of its computation. Statements only: proofs/Cost.antt proves the first, proofs/Found.antt and proofs/Over.antt the others.
+use mathlib.Core.Path.{_≡_}
+use mathlib.Core.Bool.{not}
+use mathlib.Core.List.{List, []}
+use mathlib.Core.Option.{Option}
+use Prim.Native.Nat.{ℕ, _≤_, _<_}
+use lib.Dec.{T}
+use lib.ListN.{length, getD}
+use lib.Ieee.{Float, lt, le, isNan}
+use Rattle.geo.specs.Geo.{fromEcef}
+use Rattle.dense.specs.Factor as factor
+use Rattle.linalg.specs.Methods.{zeros}
+use Rattle.sets.specs.Sets.{Subset}
+use Rattle.problem.specs.declared.Problem.{Problem}
+use Rattle.problem.specs.Problem.{position}
+use Rattle.whitening.specs.Covariance.{whitener}
+use Rattle.whitening.specs.Whitened.{Chosen, chosen}
+use Rattle.damped.specs.declared.Fit.{Fit}
+use Rattle.damped.specs.Damped.{levenbergMarquardt}
+use Rattle.best.specs.declared.Unfit.the-variants.{NoConvergence, OutOfRange}
+use Rattle.best.specs.Plausible.{minHeightM, maxHeightM, maxRangeM, range}
+use Rattle.best.specs.Best.{found, unfit, weighed, rival, best}
+use Rattle.best.specs.OfProblem.{subset, size, subsetSites, subsetZ, startsOver, bestFitOver}
+
+-- a fit that converged has a number for its cost, so that costs can be ranked
+abbrev pub CostIsNumber : Type 0
+CostIsNumber = (C : Chosen) (start : List Float) → T (levenbergMarquardt C start .ok) → T (not (isNan (levenbergMarquardt C start .cost)))
+
+-- Demand 3: "used ranges at most 600,000 m, height -1,500 to 25,000 m", as binary64 compares. The k sites are those of the receptions C.
+pub record Plausible (C : Chosen) (fit : Fit) : Type 0 where
+  pub above : T (le minHeightM (fromEcef (position (fit .params)) .«height_m»))
+  pub below : T (le (fromEcef (position (fit .params)) .«height_m») maxHeightM)
+  pub near : (j : ℕ) → j < C .k → T (le (range (C .sites) (position (fit .params)) j) maxRangeM)
+
+-- over the receptions C, from a list of starts
+module _ (C : Chosen) (starts : List (List Float)) where
+  -- the fit from the i-th
+  abbrev pub fitFrom : ℕ → Fit
+  fitFrom i = levenbergMarquardt C (getD starts i [])
+
+  -- The fit from the i-th start is the best: it converged and is plausible; of all that are, none costs less, and each from an earlier start costs more; and no fit from any start is its rival.
+  pub record IsBest (fit : Fit) (i : ℕ) : Type 0 where
+    pub listed : i < length starts
+    pub from : fit ≡ fitFrom i
+    pub converged : T (fit .ok)
+    pub plausible : Plausible C fit
+    pub cheapest : (j : ℕ) → j < length starts → T (weighed (C .sites) (C .k) (fitFrom j)) → T (le (fit .cost) (fitFrom j .cost))
+    pub earliest : (j : ℕ) → j < i → T (weighed (C .sites) (C .k) (fitFrom j)) → T (lt (fit .cost) (fitFrom j .cost))
+    pub alone : (j : ℕ) → j < length starts → T (not (rival (C .sites) (C .k) fit (fitFrom j)))
+
+-- a best fit that is found is that
+abbrev pub FoundIsBest : Type 0
+FoundIsBest = (C : Chosen) (starts : List (List Float)) (fit : Fit) → best C starts ≡ found fit → (i : ℕ) × IsBest C starts fit i
+
+-- "no start converges"
+abbrev pub NoneConverges : Type 0
+NoneConverges = (C : Chosen) (starts : List (List Float)) → best C starts ≡ unfit NoConvergence → (j : ℕ) → j < length starts → T (not (fitFrom C starts j .ok))
+
+-- "some converge, none plausible"
+abbrev pub NonePlausible : Type 0
+NonePlausible =
+    (C : Chosen) (starts : List (List Float)) → best C starts ≡ unfit OutOfRange
+    → ((i : ℕ) × (i < length starts) × T (fitFrom C starts i .ok)) × ((j : ℕ) → j < length starts → T (not (weighed (C .sites) (C .k) (fitFrom C starts j))))
+
+-- ---- over a set S of a problem's receptions, after a round that found the parameters `previous`
+module _ (P : Problem) (S : Subset) (previous : Option (List Float)) where
+  -- the receptions are whitened by l
+  abbrev pub chosenOver : List Float → Chosen
+  chosenOver l = chosen (size P S) (subsetSites P S) (subsetZ P S) l (P .altitude)
+
+  -- the fit from the i-th of the round's starts is the best, and each reception of S is within its range
+  pub record IsBestOver (fit : Fit) (l : List Float) (i : ℕ) : Type 0 where
+    pub whitens : whitener (P .«clock_m2») (P .n) (P .«noise_m2») (subset P S) (size P S) zeros ≡ factor.found l
+    pub best : IsBest (chosenOver l) (startsOver P S previous) fit i
+    pub near : (j : ℕ) → j < P .n → T (S j) → T (le (range (P .site) (position (fit .params)) j) maxRangeM)
+
+-- a round's best fit is that
+abbrev pub FoundIsBestOver : Type 0
+FoundIsBestOver =
+    (P : Problem) (S : Subset) (previous : Option (List Float)) (fit : Fit) → P .n ≤ 32 → bestFitOver P S previous ≡ found fit
+    → (l : List Float) × (i : ℕ) × IsBestOver P S previous fit l i

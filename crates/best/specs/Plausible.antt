@@ -1,0 +1,36 @@
+-- `plausible` of solve.rs: "Where a solution may be: between the height limits and within range of every receiver used." Definitions only.
+use mathlib.Core.Bool.{Bool, true, _&&_}
+use mathlib.Core.List.{List}
+use Prim.Native.Nat.{ℕ, zero, suc}
+use lib.Ieee.{Float, neg, le}
+use Rattle.binary64.specs.Steps.{decimal}
+use Rattle.geo.specs.Geo.{fromEcef}
+use Rattle.linalg.specs.Vec3.{sub, norm}
+use Rattle.problem.specs.Problem.{siteAt, position}
+
+-- `MIN_HEIGHT_M` and `MAX_HEIGHT_M`, metres above the ellipsoid, and `MAX_RANGE_M`
+unfoldable pub minHeightM : Float
+minHeightM = neg (decimal 1500 0)
+
+unfoldable pub maxHeightM : Float
+maxHeightM = decimal 25000 0
+
+unfoldable pub maxRangeM : Float
+maxRangeM = decimal 600000 0
+
+-- how far a place x is from the i-th site
+abbrev pub range : List Float → List Float → ℕ → Float
+range sites x i = norm (sub x (siteAt sites i))
+
+-- `(MIN_HEIGHT_M..=MAX_HEIGHT_M).contains(&height)`. Document 01: "A fit whose height is not a number is not plausible".
+unfoldable pub flying : Float → Bool
+flying height = le minHeightM height && le height maxHeightM
+
+-- the `all` over the sites, after i of them. Document 01: "Range exactly 600,000 passes."
+unfoldable pub nearTo : List Float → List Float → ℕ → Bool
+nearTo sites x zero = true
+nearTo sites x (suc i) = nearTo sites x i && le (range sites x i) maxRangeM
+
+-- `plausible`, with k sites
+unfoldable pub plausible : List Float → ℕ → List Float → Bool
+plausible sites k params = let x = position params in flying (fromEcef x .«height_m») && nearTo sites x k

@@ -1,0 +1,47 @@
+-- `damped::moved` meets its contract. The four sums are the definition's. Assumes nothing.
+use borrow.Author.Needs.{needs}
+use Rattle.damped.specs.Damped.{moved}
+use Rattle.damped.proofs.moved.Statement.{statement}
+use Rattle.damped.proofs.moved.Tie as tie
+
+array-read-t7 : tie.Need-array-read-t7
+array-read-t7 c = search needs
+
+array-read-t10 : tie.Need-array-read-t10
+array-read-t10 c = search needs
+
+array-read-t14 : tie.Need-array-read-t14
+array-read-t14 c = search needs
+
+array-read-t17 : tie.Need-array-read-t17
+array-read-t17 c = search needs
+
+array-read-t21 : tie.Need-array-read-t21
+array-read-t21 c = search needs
+
+array-read-t24 : tie.Need-array-read-t24
+array-read-t24 c = search needs
+
+array-read-t28 : tie.Need-array-read-t28
+array-read-t28 c = search needs
+
+array-read-t31 : tie.Need-array-read-t31
+array-read-t31 c = search needs
+
+returns : tie.Need-returns
+unfolding moved
+returns c = search needs
+
+pub moved-spec : {M : Type 1} → statement M
+moved-spec =
+    tie.close
+    (tie.spec
+    array-read-t7
+    array-read-t10
+    array-read-t14
+    array-read-t17
+    array-read-t21
+    array-read-t24
+    array-read-t28
+    array-read-t31
+    returns)

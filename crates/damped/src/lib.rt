@@ -1,0 +1,309 @@
+// The damped fit of solve.rs: Levenberg-Marquardt from a start, over the whitened rows of chosen
+// receptions.
+ghost use mathlib.Core.Path.{_≡_};
+ghost use Prim.Native.Nat.{_≤_};
+ghost use Rattle.whitening.specs.Whitened.{chosen};
+ghost use Rattle.damped.specs.Damped.{dampedTo, descent, moved, small, better, accepted, rejected, step, fitted, unfitted, plain, run, levenbergMarquardt};
+use problem::Altitude;
+use whitening::Equations;
+
+// Levenberg-Marquardt: the cap on its steps, the initial damping, and the step below which it has
+// converged (metres, on every parameter).
+pub const LM_ITERATIONS: usize = 50;
+
+pub const LM_LAMBDA: f64 = 1e-3;
+
+pub const LM_TOLERANCE_M: f64 = 1e-4;
+
+// Of the Rust's `(lambda / 10.0).max(1e-12)`, `lambda *= 10.0` and `lambda > 1e12`.
+const LAMBDA_FACTOR: f64 = 10.0;
+
+const LAMBDA_MIN: f64 = 1e-12;
+
+const LAMBDA_MAX: f64 = 1e12;
+
+// Of the Rust's `lambda * information.get(i, i).max(1e-12)`.
+const DIAGONAL_MIN: f64 = 1e-12;
+
+// The state of a fit: the parameters, the normal equations there, and the damping.
+pub struct Lm {
+    pub params: [f64; 4],
+    pub information: [f64; 16],
+    pub gradient: [f64; 4],
+    pub cost: f64,
+    pub lambda: f64,
+}
+
+// How a step ended: taken, taken and below tolerance, not taken, not taken with lambda past its end,
+// or without a Cholesky factor.
+pub enum Verdict {
+    Accepted,
+    Converged,
+    Rejected,
+    Stopped,
+    Failed,
+}
+
+pub struct Stepped {
+    pub state: Lm,
+    pub verdict: Verdict,
+}
+
+// A solution of the normal equations, and zeros where the Cholesky fails.
+struct Solved {
+    ok: bool,
+    x: [f64; 4],
+}
+
+// A fit where `ok`, which is `Some` in the Rust; `None`, and zeros, where not.
+pub struct Fit {
+    pub ok: bool,
+    pub params: [f64; 4],
+    pub cost: f64,
+    // `(Jᵀ J)` of the whitened problem at `params`.
+    pub information: [f64; 16],
+}
+
+// The information with lambda times its diagonal added.
+fn damped(information: [f64; 16], lambda: f64) -> [f64; 16]
+    ensures { λ r. ⌜ r ≡ dampedTo information lambda 4 ⌝ }
+{
+    let mut m = information;
+    for i in 0usize..4 {
+        let k = i * 4 + i;
+        m[k] = m[k] + lambda * binary64::max(information[k], DIAGONAL_MIN);
+    }
+    m
+}
+
+// x with m x = - gradient.
+fn descent(m: &[f64; 16], gradient: [f64; 4]) -> Solved
+    ensures { λ r. ⌜ r ≡ descent (now (m .entry)) gradient ⌝ }
+{
+    let mut l = [0.0; 16];
+    if dense::cholesky(m, 4, &mut l) {
+        let mut x = [-gradient[0], -gradient[1], -gradient[2], -gradient[3]];
+        dense::solve(&l, 4, &mut x);
+        return Solved { ok: true, x };
+    }
+    Solved {
+        ok: false,
+        x: [0.0; 4],
+    }
+}
+
+// The parameters after a step x.
+fn moved(params: [f64; 4], x: [f64; 4]) -> [f64; 4]
+    ensures { λ r. ⌜ r ≡ moved params x ⌝ }
+{
+    [
+        params[0] + x[0],
+        params[1] + x[1],
+        params[2] + x[2],
+        params[3] + x[3],
+    ]
+}
+
+// Whether a step to the cost `next` is taken.
+fn better(next: f64, cost: f64) -> bool
+    ensures { λ r. ⌜ r ≡ better next cost ⌝ }
+{
+    if binary64::is_finite(next) {
+        return next <= cost;
+    }
+    false
+}
+
+// Whether a step is below tolerance on every parameter.
+fn small(x: [f64; 4]) -> bool
+    ensures { λ r. ⌜ r ≡ small x ⌝ }
+{
+    if binary64::abs(x[0]) < LM_TOLERANCE_M {
+        if binary64::abs(x[1]) < LM_TOLERANCE_M {
+            if binary64::abs(x[2]) < LM_TOLERANCE_M {
+                return binary64::abs(x[3]) < LM_TOLERANCE_M;
+            }
+        }
+    }
+    false
+}
+
+// What a step x gives that is taken to `params`, where the normal equations are `next`.
+fn accepted(lambda: f64, x: [f64; 4], params: [f64; 4], next: Equations) -> Stepped
+    ensures { λ r. ⌜ r ≡ accepted lambda x params next ⌝ }
+{
+    let information = next.information;
+    let gradient = next.gradient;
+    let state = Lm {
+        params,
+        information,
+        gradient,
+        cost: next.cost,
+        lambda: binary64::max(lambda / LAMBDA_FACTOR, LAMBDA_MIN),
+    };
+    if small(x) {
+        return Stepped {
+            state,
+            verdict: Verdict::Converged,
+        };
+    }
+    Stepped {
+        state,
+        verdict: Verdict::Accepted,
+    }
+}
+
+// What a step gives that is not taken.
+fn rejected(mut state: Lm) -> Stepped
+    ensures { λ r. ⌜ r ≡ rejected state ⌝ }
+{
+    state.lambda = state.lambda * LAMBDA_FACTOR;
+    if state.lambda > LAMBDA_MAX {
+        return Stepped {
+            state,
+            verdict: Verdict::Stopped,
+        };
+    }
+    Stepped {
+        state,
+        verdict: Verdict::Rejected,
+    }
+}
+
+impl Lm {
+    // One damped step: a turn of the loop of `levenberg_marquardt`.
+    pub fn step(
+        self,
+        sites: &[f64; 96],
+        z: &[f64; 32],
+        k: usize,
+        l: &[f64; 1024],
+        altitude: Altitude,
+    ) -> Stepped
+        requires { ⌜ k ≤ 32 ⌝ }
+        ensures { λ r. ⌜ r ≡ step (chosen k (now (sites .entry)) (now (z .entry)) (now (l .entry)) altitude) self ⌝ }
+    {
+        let params = self.params;
+        let information = self.information;
+        let gradient = self.gradient;
+        let m = damped(information, self.lambda);
+        let found = descent(&m, gradient);
+        if found.ok {
+            let x = found.x;
+            let candidate = moved(params, x);
+            let next = whitening::evaluated(sites, z, k, l, altitude, candidate);
+            if better(next.cost, self.cost) {
+                return accepted(self.lambda, x, candidate, next);
+            }
+            return rejected(self);
+        }
+        Stepped {
+            state: self,
+            verdict: Verdict::Failed,
+        }
+    }
+}
+
+// `Some` of a state as a fit.
+fn fitted(state: Lm) -> Fit
+    ensures { λ r. ⌜ r ≡ fitted state ⌝ }
+{
+    let params = state.params;
+    let information = state.information;
+    Fit {
+        ok: true,
+        params,
+        cost: state.cost,
+        information,
+    }
+}
+
+// `None`.
+fn unfitted() -> Fit
+    ensures { λ r. ⌜ r ≡ unfitted ⌝ }
+{
+    Fit {
+        ok: false,
+        params: [0.0; 4],
+        cost: 0.0,
+        information: [0.0; 16],
+    }
+}
+
+// Converged only if a plain Gauss-Newton step from here is below tolerance.
+fn plain(state: Lm) -> Fit
+    ensures { λ r. ⌜ r ≡ plain state ⌝ }
+{
+    let information = state.information;
+    let gradient = state.gradient;
+    let found = descent(&information, gradient);
+    if found.ok {
+        let x = found.x;
+        if small(x) {
+            return fitted(state);
+        }
+        return unfitted();
+    }
+    unfitted()
+}
+
+// The loop of `levenberg_marquardt` from a state, and the test after it.
+fn run(
+    start: Lm,
+    sites: &[f64; 96],
+    z: &[f64; 32],
+    k: usize,
+    l: &[f64; 1024],
+    altitude: Altitude,
+) -> Fit
+    requires { ⌜ k ≤ 32 ⌝ }
+    ensures { λ r. ⌜ r ≡ run (chosen k (now (sites .entry)) (now (z .entry)) (now (l .entry)) altitude) 50 start ⌝ }
+{
+    let mut state = start;
+    for n in 0usize..LM_ITERATIONS {
+        let turn = state.step(sites, z, k, l, altitude);
+        let verdict = turn.verdict;
+        let next = turn.state;
+        match verdict {
+            Verdict::Accepted => {}
+            Verdict::Converged => {
+                return fitted(next);
+            }
+            Verdict::Rejected => {}
+            Verdict::Stopped => {
+                return plain(next);
+            }
+            Verdict::Failed => {
+                return unfitted();
+            }
+        }
+        state = next;
+    }
+    plain(state)
+}
+
+// Levenberg-Marquardt from `start` over the k receptions at `sites` that came at `z`, whitened by
+// the factor l.
+pub fn levenberg_marquardt(
+    sites: &[f64; 96],
+    z: &[f64; 32],
+    k: usize,
+    l: &[f64; 1024],
+    altitude: Altitude,
+    start: [f64; 4],
+) -> Fit
+    requires { ⌜ k ≤ 32 ⌝ }
+    ensures { λ r. ⌜ r ≡ levenbergMarquardt (chosen k (now (sites .entry)) (now (z .entry)) (now (l .entry)) altitude) start ⌝ }
+{
+    let first = whitening::evaluated(sites, z, k, l, altitude, start);
+    let information = first.information;
+    let gradient = first.gradient;
+    let state = Lm {
+        params: start,
+        information,
+        gradient,
+        cost: first.cost,
+        lambda: LM_LAMBDA,
+    };
+    run(state, sites, z, k, l, altitude)
+}

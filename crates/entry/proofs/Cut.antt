@@ -1,0 +1,103 @@
+-- A file that is too long gets the reply of what the program `solve` cuts it to. Assumes nothing.
+use Prim.Native.Nat.{ℕ, _*_, _%_, _≤_, _<_}
+use mathlib.Core.Path.{_≡_, refl, ap, sym, _∙_}
+use mathlib.Core.Bool.{Bool, true, false, cond, _&&_}
+use mathlib.Core.List.{List}
+use mathlib.Core.Option.{Option, some}
+use native.Mathlib.Omega.{arith}
+use borrow.Author.Tests.{eq-eqb, ne-eqb, lt-leb, leb-true}
+use lib.Dec.{eqb, leb}
+use lib.ListN.{length}
+use Rattle.dense.proofs.Places.{room}
+use Rattle.inputs.specs.declared.Fault.{Fault}
+use Rattle.inputs.specs.declared.Fault.the-variants.{TornInput, TooMany, ClockSize}
+use Rattle.inputs.specs.declared.Check.{Check}
+use Rattle.inputs.specs.declared.Check.the-variants.{Passed, Refused}
+use Rattle.inputs.specs.Faults.{numberOf, detailOf, orElse, unless, firstTo}
+use Rattle.inputs.specs.Files.{receptionAt}
+use Rattle.inputs.specs.Inputs.{countOf, sized, whole, checkReception, checkClock, checkInputs}
+use Rattle.entry.specs.Reply.{Inputs, turnedAway, replied, reply}
+use Rattle.entry.proofs.Replies.{made, bare}
+
+abbrev of : List ℕ → Option (List ℕ) → Option (List ℕ) → Option (List ℕ) → Inputs
+of rs clock alt ref = record { receptions = rs; clock = clock; altitude = alt; reference = ref }
+
+-- n is not written
+without-n : (fault : Fault) (n : ℕ) → 9 < numberOf fault → turnedAway fault n ≡ turnedAway fault 0
+without-n fault n h = ap (made (numberOf fault)) (bare (numberOf fault) (detailOf fault) n 0 h)
+
+-- ---- receptions
+module _ (clock alt ref : Option (List ℕ)) where
+  torn-reply : (rs : List ℕ) → (length rs % 64 ≡ 0 → ⊥) → reply (of rs clock alt ref) ≡ turnedAway TornInput 0
+  unfolding reply checkInputs whole
+  torn-reply rs h = rw (ne-eqb (length rs % 64) 0 h) (without-n TornInput (countOf rs) (omega arith))
+
+  many-reply : (rs : List ℕ) → length rs % 64 ≡ 0 → 32 < countOf rs → reply (of rs clock alt ref) ≡ turnedAway (cond (sized 16 alt && sized 8 ref) TooMany TornInput) 0
+  unfolding reply checkInputs whole
+  many-reply rs h l = rw (eq-eqb (length rs % 64) 0 h, lt-leb (countOf rs) 32 l) (go (sized 16 alt && sized 8 ref))
+    where
+      go : (b : Bool) → replied (orElse (unless b TornInput) (Refused TooMany)) (of rs clock alt ref) ≡ turnedAway (cond b TooMany TornInput) 0
+      go true = without-n TooMany (countOf rs) (omega arith)
+      go false = without-n TornInput (countOf rs) (omega arith)
+
+  -- 2,111 bytes stand for every torn length
+  pub cut-torn : (rs cut : List ℕ) → (length rs % 64 ≡ 0 → ⊥) → length cut ≡ 2111 → reply (of rs clock alt ref) ≡ reply (of cut clock alt ref)
+  cut-torn rs cut h e = torn-reply rs h ∙ sym (torn-reply cut (λ q. omega arith))
+
+  -- 2,112 bytes stand for every whole number of receptions above 32
+  pub cut-whole : (rs cut : List ℕ) → length rs % 64 ≡ 0 → 2112 ≤ length rs → length cut ≡ 2112 → reply (of rs clock alt ref) ≡ reply (of cut clock alt ref)
+  cut-whole rs cut h l e = many-reply rs h (omega arith) ∙ sym (many-reply cut (omega arith) (omega arith))
+
+-- ---- the clock covariance
+module _ (rs : List ℕ) (alt ref : Option (List ℕ)) where
+  abbrev received : Check
+  received = firstTo (checkReception (receptionAt rs)) (countOf rs)
+
+  abbrev long : Check
+  long = orElse (unless (whole rs alt ref) TornInput) (orElse (unless (leb (countOf rs) 32) TooMany) (orElse received (Refused ClockSize)))
+
+  clock-long : (b : List ℕ) → 8192 < length b → countOf rs ≤ 32 → checkClock (some b) (countOf rs) ≡ Refused ClockSize
+  clock-long b h l = rw (ne-eqb (length b) (8 * (countOf rs * countOf rs)) (λ e. omega (arith, room (countOf rs) l)))
+
+  check-long : (b : List ℕ) → 8192 < length b → checkInputs rs (some b) alt ref ≡ long
+  unfolding checkInputs
+  check-long b h = go (leb (countOf rs) 32) refl
+    where
+      go : (t : Bool) → leb (countOf rs) 32 ≡ t → checkInputs rs (some b) alt ref ≡ long
+      go true e = rw (e, clock-long b h (leb-true (countOf rs) 32 e))
+      go false e = rw e
+
+  same : (x y z : Check) (I J : Inputs) → I .receptions ≡ J .receptions → replied (orElse x (orElse y (orElse z (Refused ClockSize)))) I ≡ replied (orElse x (orElse y (orElse z (Refused ClockSize)))) J
+  same (Refused f) y z I J e = ap (λ (r : List ℕ). turnedAway f (countOf r)) e
+  same Passed (Refused f) z I J e = ap (λ (r : List ℕ). turnedAway f (countOf r)) e
+  same Passed Passed (Refused f) I J e = ap (λ (r : List ℕ). turnedAway f (countOf r)) e
+  same Passed Passed Passed I J e = ap (λ (r : List ℕ). turnedAway ClockSize (countOf r)) e
+
+  -- 8,193 bytes stand for every greater length
+  pub cut-clock : (b cut : List ℕ) → 8192 < length b → 8192 < length cut → reply (of rs (some b) alt ref) ≡ reply (of rs (some cut) alt ref)
+  unfolding reply
+  cut-clock b cut h k = rw (check-long b h, check-long cut k) (same (unless (whole rs alt ref) TornInput) (unless (leb (countOf rs) 32) TooMany) received (of rs (some b) alt ref) (of rs (some cut) alt ref) refl)
+
+-- ---- the altitude and the reference: one byte too many stands for every greater length
+module _ (rs : List ℕ) (clock : Option (List ℕ)) where
+  torn-by : (alt ref : Option (List ℕ)) → sized 16 alt && sized 8 ref ≡ false → reply (of rs clock alt ref) ≡ turnedAway TornInput 0
+  unfolding reply checkInputs whole
+  torn-by alt ref e = rw e (go (eqb (length rs % 64) 0) _)
+    where
+      go : (t : Bool) (later : Check) → replied (orElse (unless (t && false) TornInput) later) (of rs clock alt ref) ≡ turnedAway TornInput 0
+      go true later = without-n TornInput (countOf rs) (omega arith)
+      go false later = without-n TornInput (countOf rs) (omega arith)
+
+  off : (t : Bool) → t && false ≡ false
+  off true = refl
+  off false = refl
+
+  pub cut-altitude : (a cut : List ℕ) (ref : Option (List ℕ)) → 16 < length a → 16 < length cut → reply (of rs clock (some a) ref) ≡ reply (of rs clock (some cut) ref)
+  cut-altitude a cut ref h k =
+      torn-by (some a) ref (rw (ne-eqb (length a) 16 (λ e. omega arith)))
+      ∙ sym (torn-by (some cut) ref (rw (ne-eqb (length cut) 16 (λ e. omega arith))))
+
+  pub cut-reference : (r cut : List ℕ) (alt : Option (List ℕ)) → 8 < length r → 8 < length cut → reply (of rs clock alt (some r)) ≡ reply (of rs clock alt (some cut))
+  cut-reference r cut alt h k =
+      torn-by alt (some r) (rw (ne-eqb (length r) 8 (λ e. omega arith)) (off (sized 16 alt)))
+      ∙ sym (torn-by alt (some cut) (rw (ne-eqb (length cut) 8 (λ e. omega arith)) (off (sized 16 alt))))

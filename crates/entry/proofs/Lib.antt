@@ -1,0 +1,4 @@
+pub mod Replies
+pub mod Written
+pub mod Cut
+pub mod Outputs

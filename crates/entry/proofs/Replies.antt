@@ -1,0 +1,124 @@
+-- The reply by its parts: of an answer, of inputs that are turned away, and of a problem. Assumes nothing.
+use Prim.Native.Nat.{ℕ, _<_}
+use mathlib.Core.Path.{_≡_, refl, ap, ap₂, sym, _∙_}
+use mathlib.Core.Bool.{Bool, true, false}
+use mathlib.Core.List.{List}
+use mathlib.Core.Option.{Option}
+use native.Mathlib.Omega.{arith}
+use borrow.Author.Tests.{lt-leb}
+use denote.Enum.Declared.{tagOf}
+use Rattle.sets.specs.Mask.{has}
+use Rattle.problem.specs.declared.Altitude.{Altitude}
+use Rattle.problem.specs.declared.Problem.{Problem}
+use Rattle.inputs.specs.declared.Given.{Given}
+use Rattle.inputs.specs.declared.Fault.{Fault}
+use Rattle.inputs.specs.declared.Fault.the-variants.{TornInput, TooMany}
+use Rattle.inputs.specs.declared.Check.{Check}
+use Rattle.inputs.specs.declared.Check.the-variants.{Passed, Refused}
+use Rattle.inputs.specs.Faults.{numberOf, detailOf, orElse, unless}
+use Rattle.inputs.specs.Inputs.{given, countOf, whole, checkCovered, checkInputs, problemOf}
+use Rattle.inputs.proofs.Check as check
+use Rattle.inputs.proofs.Order.{is-covered}
+use Rattle.rounds.specs.declared.answer.Answer as code
+use Rattle.rounds.specs.declared.answer.Case.{Case}
+use Rattle.rounds.specs.declared.answer.Case.the-variants as case
+use Rattle.rounds.specs.declared.answer.Refusal.{Refusal}
+use Rattle.rounds.specs.Setting.{Answer}
+use Rattle.rounds.specs.Solve.{told, answerOf, refusalNumber, refusalDetail, solveProblem}
+use Rattle.rounds.proofs.answer.Case as cases
+use Rattle.record.specs.declared.content.Fix.{Fix}
+use Rattle.record.specs.Record.{refusal}
+use Rattle.record.specs.Record as shown
+use Rattle.entry.specs.declared.Reply.{Reply}
+use Rattle.entry.specs.Reply.{lent, checked, bytesOf, problem, answered, turnedAway, replied, reply}
+
+-- ---- a match that took an arm with nothing bound
+pub is-passed : (k : Check) → tagOf check.the-type k ≡ 0 → k ≡ Passed
+is-passed Passed e = refl
+is-passed (Refused fault) e = absurd (omega arith)
+
+pub is-fix : (k : Case) → tagOf cases.the-type k ≡ 0 → k ≡ case.Fix
+is-fix case.Fix e = refl
+is-fix (case.Refused why) e = absurd (omega arith)
+is-fix case.NoFixedPoint e = absurd (omega arith)
+
+pub is-unfixed : (k : Case) → tagOf cases.the-type k ≡ 2 → k ≡ case.NoFixedPoint
+is-unfixed case.Fix e = absurd (omega arith)
+is-unfixed (case.Refused why) e = absurd (omega arith)
+is-unfixed case.NoFixedPoint e = refl
+
+-- ---- the reply of an answer
+abbrev pub made : ℕ → List ℕ → Reply
+made k l = record { number = k; bytes = l }
+
+module _ (n : ℕ) (altitude : Altitude) (a : code.Answer) where
+  told-by : (k : Case) → a .case ≡ k → answered n altitude (answerOf k (a .fix)) ≡ answered n altitude (told a)
+  told-by k e = ap (λ (c : Case). answered n altitude (answerOf c (a .fix))) (sym e)
+
+  pub fix-reply : (b : List ℕ) → a .case ≡ case.Fix → b ≡ shown.fix n altitude (a .fix) → made 0 b ≡ answered n altitude (told a)
+  fix-reply b e h = ap (made 0) h ∙ told-by case.Fix e
+
+  pub refusal-reply
+      : (r : Reply) (why : Refusal) (k d : ℕ) → a .case ≡ case.Refused why → k ≡ refusalNumber why → d ≡ refusalDetail why → (r .number ≡ k) × (r .bytes ≡ refusal k d n)
+      → r ≡ answered n altitude (told a)
+  refusal-reply r why k d e f g h =
+      ap₂ (λ (x : ℕ) (l : List ℕ). made x l) (h .0 ∙ f) (h .1 ∙ ap₂ (λ (x y : ℕ). refusal x y n) f g) ∙ told-by (case.Refused why) e
+
+  pub unfixed-reply : (r : Reply) → a .case ≡ case.NoFixedPoint → (r .number ≡ 4) × (r .bytes ≡ refusal 4 0 n) → r ≡ answered n altitude (told a)
+  unfixed-reply r e h = ap₂ (λ (x : ℕ) (l : List ℕ). made x l) (h .0) (h .1) ∙ told-by case.NoFixedPoint e
+
+-- ---- the reply to inputs that are turned away
+
+-- from 10 on, n is not written
+pub bare : (k d n m : ℕ) → 9 < k → refusal k d n ≡ refusal k d m
+unfolding refusal
+bare k d n m h = rw (lt-leb k 9 h)
+
+pub away-reply : (r : Reply) (fault : Fault) (k d n : ℕ) → k ≡ numberOf fault → d ≡ detailOf fault → (r .number ≡ k) × (r .bytes ≡ refusal k d n) → r ≡ turnedAway fault n
+away-reply r fault k d n f g h = ap₂ (λ (x : ℕ) (l : List ℕ). made x l) (h .0 ∙ f) (h .1 ∙ ap₂ (λ (x y : ℕ). refusal x y n) f g)
+
+pub bare-reply
+    : (r : Reply) (fault : Fault) (k d n : ℕ) → k ≡ numberOf fault → d ≡ detailOf fault → 9 < numberOf fault → (r .number ≡ k) × (r .bytes ≡ refusal k d 0) → r ≡ turnedAway fault n
+bare-reply r fault k d n f g l h = away-reply r fault k d 0 f g h ∙ ap (made (numberOf fault)) (bare (numberOf fault) (detailOf fault) 0 n l)
+
+-- more than 32 receptions are turned away by 15 or 10
+pub many-away : (rs : List ℕ) (clock alt ref : Option (List ℕ)) (fault : Fault) → checkInputs rs clock alt ref ≡ Refused fault → 32 < countOf rs → 9 < numberOf fault
+unfolding checkInputs
+many-away rs clock alt ref fault e h = go (whole rs alt ref) (rw (lt-leb (countOf rs) 32 h) at e)
+  where
+    go : (b : Bool) → orElse (unless b TornInput) (Refused TooMany) ≡ Refused fault → 9 < numberOf fault
+    go true q = let z : TooMany ≡ fault = cc in rw (← z) (omega arith)
+    go false q = let z : TornInput ≡ fault = cc in rw (← z) (omega arith)
+
+-- ---- the reply to the inputs
+
+-- a clock covariance that is there
+there : (t : Bool) (b : List ℕ) → checkCovered (given t b) ≡ Passed → bytesOf (given t b) ≡ b
+there true b e = refl
+there false b e = absurd (let z : _≡_ {A = ℕ} 0 1 = cc in omega arith)
+
+module _ (rs clock alt ref : List ℕ) (present : ℕ) (g : Given) (G : (g .clock ≡ has present 0) × (g .altitude ≡ has present 1) × (g .reference ≡ has present 2)) (k : Check)
+    (K : k ≡ checkInputs rs (given (g .clock) clock) (given (g .altitude) alt) (given (g .reference) ref)) where
+  same : k ≡ checked (lent rs clock alt ref present)
+  same = K ∙ rw (G .0, G .1, G .2)
+
+  pub refused-reply : (r : Reply) (fault : Fault) → k ≡ Refused fault → r ≡ turnedAway fault (countOf rs) → r ≡ reply (lent rs clock alt ref present)
+  unfolding reply
+  refused-reply r fault e h = h ∙ ap (λ (c : Check). replied c (lent rs clock alt ref present)) (sym e ∙ same)
+
+  is-problem : (p : Problem) → k ≡ Passed → p ≡ problemOf rs clock (given (g .altitude) alt) (given (g .reference) ref) → p ≡ problem (lent rs clock alt ref present)
+  is-problem p e h =
+      h
+      ∙ ap₂ (λ (s t : Bool). problemOf rs clock (given s alt) (given t ref)) (G .1) (G .2)
+      ∙ ap (λ (c : List ℕ). problemOf rs c (given (has present 1) alt) (given (has present 2) ref))
+      (sym (there (has present 0) clock (is-covered rs (given (has present 1) alt) (given (has present 2) ref) (given (has present 0) clock) (sym same ∙ e))))
+
+  pub problem-reply
+      : (r : Reply) (p : Problem) (a : Answer Fix) → k ≡ Passed → p ≡ problemOf rs clock (given (g .altitude) alt) (given (g .reference) ref) → a ≡ solveProblem p → r ≡ answered (p .n) (p .altitude) a
+      → r ≡ reply (lent rs clock alt ref present)
+  unfolding reply
+  problem-reply r p a e P A h =
+      h
+      ∙ ap (answered (p .n) (p .altitude)) A
+      ∙ ap (λ (q : Problem). answered (q .n) (q .altitude) (solveProblem q)) (is-problem p e P)
+      ∙ ap (λ (c : Check). replied c (lent rs clock alt ref present)) (sym e ∙ same)

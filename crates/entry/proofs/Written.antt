@@ -1,0 +1,42 @@
+-- Demand 3 holds of the bytes that are written. Assumes nothing.
+use Prim.Native.Nat.{ℕ, _≤_}
+use mathlib.Core.Path.{_≡_, ap, _∙_}
+use mathlib.Core.List.{List}
+use lib.ListN.{length, take, drop}
+use lib.Seq.{take-at}
+use Rattle.problem.specs.declared.Problem.{Problem}
+use Rattle.inputs.specs.declared.Check.{Check}
+use Rattle.inputs.specs.declared.Check.the-variants.{Passed}
+use Rattle.inputs.specs.Inputs.{problemOf}
+use Rattle.inputs.proofs.Order.{few}
+use Rattle.rounds.specs.Setting.{Answer}
+use Rattle.rounds.specs.Solve.{settingAt, solveProblem}
+use Rattle.rounds.specs.Demand.{rounds, Claim}
+use Rattle.rounds.proofs.Claim.{only}
+use Rattle.rounds.proofs.Found.{demand-met}
+use Rattle.record.specs.declared.content.Fix.{Fix}
+use Rattle.record.specs.Record.{stored}
+use Rattle.entry.specs.declared.Reply.{Reply}
+use Rattle.entry.specs.Reply.{Inputs, checked, problem, recordOf, replied, reply, Demanded}
+
+no-other : (P : Problem) (a : Answer Fix) → Claim (rounds P) a → a ≡ solveProblem P
+unfolding solveProblem
+no-other P = only (settingAt P)
+
+module _ (I : Inputs) (passes : checked I ≡ Passed) where
+  small : problem I .n ≤ 32
+  unfolding problemOf
+  small = few (I .receptions) (I .altitude) (I .reference) (I .clock) passes
+
+  shown : reply I .bytes ≡ recordOf (problem I .n) (problem I .altitude) (solveProblem (problem I))
+  unfolding reply
+  shown = ap (λ (c : Check). replied c I .bytes) passes
+
+  pub written : (r : Reply) (out after : List ℕ) → r ≡ reply I → length (r .bytes) ≡ 176 → after ≡ stored out (r .bytes) → Demanded (problem I) after
+  written r out after e l s =
+      record {
+        answer = solveProblem (problem I);
+        demand = demand-met (problem I) small;
+        written = ap (take 176) s ∙ take-at (r .bytes) (drop 176 out) 176 l ∙ ap (λ (q : Reply). q .bytes) e ∙ shown;
+        alone = no-other (problem I);
+      }

@@ -1,0 +1,92 @@
+-- What a solve answers to its four inputs, and the bytes that it leaves in the lent output. Definitions and statements only.
+use Prim.Native.Nat.{ℕ}
+use mathlib.Core.Path.{_≡_}
+use mathlib.Core.Bool.{cond}
+use mathlib.Core.List.{List, []}
+use mathlib.Core.Option.{Option, none, some}
+use lib.Dec.{ltb}
+use lib.ListN.{length, take}
+use Rattle.sets.specs.Mask.{has}
+use Rattle.problem.specs.declared.Altitude.{Altitude}
+use Rattle.problem.specs.declared.Problem.{Problem}
+use Rattle.inputs.specs.declared.Fault.{Fault}
+use Rattle.inputs.specs.declared.Check.{Check}
+use Rattle.inputs.specs.declared.Check.the-variants.{Passed, Refused}
+use Rattle.inputs.specs.Faults.{numberOf, detailOf}
+use Rattle.inputs.specs.Inputs.{given, countOf, checkInputs, problemOf}
+use Rattle.rounds.specs.Setting.{Answer, fix, refused, noFixedPoint}
+use Rattle.rounds.specs.Solve.{number, detail, solveProblem}
+use Rattle.rounds.specs.Demand.{rounds, Claim, Demand}
+use Rattle.record.specs.declared.content.Fix.{Fix}
+use Rattle.record.specs.Record.{refusal, stored}
+use Rattle.record.specs.Record as shown
+use Rattle.entry.specs.declared.Reply.{Reply}
+
+-- ---- the inputs
+
+-- receptions.bin, clock.bin, altitude.bin and reference.bin. Absent receptions are empty ones.
+pub record Inputs : Type 0 where
+  pub receptions : List ℕ
+  pub clock : Option (List ℕ)
+  pub altitude : Option (List ℕ)
+  pub reference : Option (List ℕ)
+
+-- as a caller lends them: of `present` bit 0 says that there is a clock covariance, bit 1 an altitude and bit 2 a reference. Further bits mean nothing.
+abbrev pub lent : List ℕ → List ℕ → List ℕ → List ℕ → ℕ → Inputs
+lent receptions clock altitude reference present =
+    record {
+      receptions = receptions;
+      clock = given (has present 0) clock;
+      altitude = given (has present 1) altitude;
+      reference = given (has present 2) reference;
+    }
+
+-- what they are turned away for
+abbrev pub checked : Inputs → Check
+checked I = checkInputs (I .receptions) (I .clock) (I .altitude) (I .reference)
+
+abbrev pub bytesOf : Option (List ℕ) → List ℕ
+bytesOf none = []
+bytesOf (some bytes) = bytes
+
+-- the problem that they hold where nothing turns them away
+abbrev pub problem : Inputs → Problem
+problem I = problemOf (I .receptions) (bytesOf (I .clock)) (I .altitude) (I .reference)
+
+-- ---- the reply: document 01's answer number, and the 176 bytes
+
+-- the record of an answer to a problem of n receptions with this altitude
+abbrev pub recordOf : ℕ → Altitude → Answer Fix → List ℕ
+recordOf n altitude (fix x) = shown.fix n altitude x
+recordOf n altitude (refused why) = refusal (number (refused why)) (detail (refused why)) n
+recordOf n altitude noFixedPoint = refusal (number noFixedPoint) (detail noFixedPoint) n
+
+abbrev pub answered : ℕ → Altitude → Answer Fix → Reply
+answered n altitude a = record { number = number a; bytes = recordOf n altitude a }
+
+abbrev pub turnedAway : Fault → ℕ → Reply
+turnedAway fault n = record { number = numberOf fault; bytes = refusal (numberOf fault) (detailOf fault) n }
+
+abbrev pub replied : Check → Inputs → Reply
+replied (Refused fault) I = turnedAway fault (countOf (I .receptions))
+replied Passed I = answered (problem I .n) (problem I .altitude) (solveProblem (problem I))
+
+unfoldable pub reply : Inputs → Reply
+reply I = replied (checked I) I
+
+-- ---- what the caller gets who lends `out`
+
+-- 14: "under 176 bytes lent"
+abbrev pub answer : Inputs → List ℕ → ℕ
+answer I out = cond (ltb (length out) 176) 14 (reply I .number)
+
+-- the output afterwards: for 14 nothing is written
+abbrev pub output : Inputs → List ℕ → List ℕ
+output I out = cond (ltb (length out) 176) out (stored out (reply I .bytes))
+
+-- Demand 3, of the bytes that are written: they are the record of an answer that meets it, and no other answer meets its claim.
+pub record Demanded (P : Problem) (out : List ℕ) : Type 0 where
+  pub answer : Answer Fix
+  pub demand : Demand P answer
+  pub written : take 176 out ≡ recordOf (P .n) (P .altitude) answer
+  pub alone : (other : Answer Fix) → Claim (rounds P) other → other ≡ answer

@@ -1,0 +1,151 @@
+// The solve: four inputs to an answer number and a record of 176 bytes.
+ghost use mathlib.Core.Path.{_≡_};
+ghost use Prim.Native.Nat.{_≤_, _<_};
+ghost use lib.ListN.{length};
+ghost use Rattle.inputs.specs.Faults.{passed, numberOf};
+ghost use Rattle.rounds.specs.Solve.{told, refusalNumber, refusalDetail};
+ghost use Rattle.record.specs.Record as shown;
+ghost use Rattle.sets.specs.Mask.{has};
+ghost use Rattle.entry.specs.Reply as reply;
+use inputs::Check;
+use inputs::Fault;
+use inputs::Given;
+use problem::Altitude;
+use rounds::Answer;
+use rounds::Case;
+use rounds::Refusal;
+
+// The bytes of a record.
+const RECORD: usize = 176;
+
+// The bytes of a reception.
+const RECEPTION: usize = 64;
+
+// The most receptions that a problem has.
+const MOST: usize = 32;
+
+// Document 01's answer number, and the record.
+pub struct Reply {
+    pub number: u32,
+    pub bytes: [u8; 176],
+}
+
+// Which inputs there are: bit 0 clock, bit 1 altitude, bit 2 reference.
+fn given(present: u32) -> Given
+    ensures { λ r. ⌜ (r .clock ≡ has present 0) × (r .altitude ≡ has present 1) × (r .reference ≡ has present 2) ⌝ }
+{
+    Given {
+        clock: sets::has(present, 0),
+        altitude: sets::has(present, 1),
+        reference: sets::has(present, 2),
+    }
+}
+
+// Document 01's number and detail of a refusal by the solve.
+fn number_of(why: Refusal) -> u32
+    ensures { λ r. ⌜ r ≡ refusalNumber why ⌝ }
+{
+    match why {
+        Refusal::TooFew(included) => 1,
+        Refusal::NoConvergence => 2,
+        Refusal::OutOfRange => 3,
+        Refusal::Inconsistent => 5,
+        Refusal::Singular => 6,
+        Refusal::Ambiguous => 8,
+        Refusal::Uncertain => 9,
+    }
+}
+
+fn detail_of(why: Refusal) -> u32
+    ensures { λ r. ⌜ r ≡ refusalDetail why ⌝ }
+{
+    match why {
+        Refusal::TooFew(included) => included,
+        Refusal::NoConvergence => 0,
+        Refusal::OutOfRange => 0,
+        Refusal::Inconsistent => 0,
+        Refusal::Singular => 0,
+        Refusal::Ambiguous => 0,
+        Refusal::Uncertain => 0,
+    }
+}
+
+fn refused(number: u32, detail: u32, n: u32) -> Reply
+    ensures { λ r. ⌜ (r .number ≡ number) × (r .bytes ≡ shown.refusal number detail n) ⌝ }
+{
+    let bytes = record::refusal(number, detail, n);
+    Reply { number, bytes }
+}
+
+// The reply of an answer to a problem of n receptions.
+fn answered(n: u32, altitude: Altitude, answer: Answer) -> Reply
+    ensures { λ r. ⌜ r ≡ reply.answered n altitude (told answer) ⌝ }
+{
+    let case = answer.case;
+    match case {
+        Case::Fix => {
+            let bytes = record::fix(n, altitude, answer.fix);
+            Reply { number: 0, bytes }
+        }
+        Case::Refused(why) => refused(number_of(why), detail_of(why), n),
+        Case::NoFixedPoint => refused(4, 0, n),
+    }
+}
+
+// The reply to inputs that are turned away: n is shown for 1 to 9 only, which turn no more than 32 away.
+fn turned_away(fault: Fault, n: usize) -> Reply
+    requires { ⌜ (32 < n → 9 < numberOf fault) ⌝ }
+    ensures { λ r. ⌜ r ≡ reply.turnedAway fault n ⌝ }
+{
+    let number = inputs::number_of(fault);
+    let detail = inputs::detail_of(fault);
+    if n <= MOST {
+        return refused(number, detail, n as u32);
+    }
+    refused(number, detail, 0)
+}
+
+fn reply_to(
+    receptions: &[u8],
+    clock: &[u8],
+    altitude: &[u8],
+    reference: &[u8],
+    present: u32,
+) -> Reply
+    ensures { λ r. ⌜ r ≡ reply.reply (reply.lent (now (receptions .entry)) (now (clock .entry)) (now (altitude .entry)) (now (reference .entry)) present) ⌝ }
+{
+    let g = given(present);
+    let found = inputs::check_inputs(receptions, g, clock, altitude, reference);
+    match found {
+        Check::Refused(fault) => turned_away(fault, receptions.len() / RECEPTION),
+        Check::Passed => {
+            let p = inputs::problem_of(receptions, g, clock, altitude, reference);
+            let n = p.n as u32;
+            let kind = p.altitude;
+            answered(n, kind, rounds::solve_problem(p))
+        }
+    }
+}
+
+// Solves one transmission's problem from its four inputs, and writes the record. `present` says which
+// inputs there are: bit 0 clock, bit 1 altitude, bit 2 reference. Gives document 01's answer number.
+pub fn solve(
+    receptions: &[u8],
+    clock: &[u8],
+    altitude: &[u8],
+    reference: &[u8],
+    present: u32,
+    out: &mut [u8],
+) -> u32
+    ensures answer { λ r. ⌜ r ≡ reply.answer (reply.lent (now (receptions .entry)) (now (clock .entry)) (now (altitude .entry)) (now (reference .entry)) present) (now (out .entry)) ⌝ }
+    ensures output { λ _. ⌜ now (out .exit) ≡ reply.output (reply.lent (now (receptions .entry)) (now (clock .entry)) (now (altitude .entry)) (now (reference .entry)) present) (now (out .entry)) ⌝ }
+    ensures demand { λ _. ⌜ (reply.checked (reply.lent (now (receptions .entry)) (now (clock .entry)) (now (altitude .entry)) (now (reference .entry)) present) ≡ passed → 176 ≤ length (now (out .entry)) → reply.Demanded (reply.problem (reply.lent (now (receptions .entry)) (now (clock .entry)) (now (altitude .entry)) (now (reference .entry)) present)) (now (out .exit))) ⌝ }
+{
+    if out.len() < RECORD {
+        return 14;
+    }
+    let r = reply_to(receptions, clock, altitude, reference, present);
+    let bytes = r.bytes;
+    record::store(out, bytes);
+    r.number
+}

@@ -1,0 +1,149 @@
+-- A problem that was read is in the domain: each of its fields passed its test. Assumes nothing.
+use Prim.Native.Nat.{ℕ, zero, suc, _+_, _*_, _-_, _/_, _%_, _<_, _≤_}
+use mathlib.Core.Path.{_≡_, refl}
+use mathlib.Core.Bool.{Bool, true, false, cond, _&&_, _||_}
+use mathlib.Core.Logic.{_⊎_, inl, inr}
+use mathlib.Core.List.{List}
+use mathlib.Core.Option.{Option, none, some}
+use native.Mathlib.Omega.{arith}
+use native.Mathlib.Nat.{eq-or-lt-of-le}
+use borrow.Author.Tests.{ltb-true, le-leb}
+use lib.Arith.{digits-div, digits-mod}
+use lib.Dec.{eqb}
+use lib.IntN.{pos}
+use lib.ListN.{getD, length-replicate}
+use lib.Ieee.{Float, nan}
+use Rattle.dense.specs.Entries.{at}
+use Rattle.dense.proofs.Places.{place, room}
+use Rattle.problem.specs.declared.Altitude.the-variants.{Barometric, Gnss}
+use Rattle.inputs.specs.declared.Fault.the-variants.{Disorder, BadField}
+use Rattle.inputs.specs.declared.Check.the-variants.{Passed}
+use Rattle.inputs.specs.declared.Reception.{Reception}
+use Rattle.inputs.specs.Faults.{unless, firstTo}
+use Rattle.inputs.specs.Files.{receptionAt, entryAt, kindAt, metresAt}
+use Rattle.inputs.specs.Domain.{goodTime, goodCoordinate, goodSite, goodZ, goodNoise, goodReception, goodEntry, goodMetres, goodAltitude}
+use Rattle.inputs.specs.Inputs.{given, countOf, ascends, checkReception, goodRowTo, checkRow, checkAltitude, checkInputs, fillTo, wholes, floats, upperAt, covarianceOf, receptionsOf, altitudeOf, problemOf}
+use Rattle.inputs.specs.InDomain.{InDomain, Ascending, altitudeGood}
+use Rattle.inputs.proofs.Order.{both-of, good-of, or-of, few, passed-receptions, passed-clock, passed-altitude, is-covered, clock-of, first-of}
+use Rattle.inputs.proofs.Filling.{fill-at}
+
+-- ---- a reception that passes
+module _ (from : ℕ → Reception) (i : ℕ) (e : checkReception from i ≡ Passed) where
+  steps : (unless (goodReception (from i)) (BadField i) ≡ Passed) × (unless (ascends from i) (Disorder i) ≡ Passed)
+  unfolding checkReception
+  steps = or-of _ _ e
+
+  pub above-before : ascends from i ≡ true
+  above-before = good-of _ (Disorder i) (steps .1)
+
+  abbrev r : Reception
+  r = from i
+
+  fields : (goodTime (r .time) ≡ true) × (goodSite (r .«site_mm») && ((goodZ (r .z) && goodNoise (r .«noise_m2»)) && eqb (r .filler) 0) ≡ true)
+  unfolding goodReception
+  fields = both-of _ _ (good-of _ (BadField i) (steps .0))
+
+  later : (goodSite (r .«site_mm») ≡ true) × ((goodZ (r .z) && goodNoise (r .«noise_m2»)) && eqb (r .filler) 0 ≡ true)
+  later = both-of _ _ (fields .1)
+
+  floats-good : (goodZ (r .z) ≡ true) × (goodNoise (r .«noise_m2») ≡ true)
+  floats-good = both-of _ _ (both-of _ _ (later .1) .0)
+
+  pub time-good : goodTime (r .time) ≡ true
+  time-good = fields .0
+
+  pub z-good : goodZ (r .z) ≡ true
+  z-good = floats-good .0
+
+  pub noise-good : goodNoise (r .«noise_m2») ≡ true
+  noise-good = floats-good .1
+
+  abbrev good : ℕ → Bool
+  good a = goodCoordinate (getD (r .«site_mm») a (pos 0))
+
+  pub coordinate-good : (a : ℕ) → a < 3 → good a ≡ true
+  coordinate-good zero h = both-of (good 0) (good 1 && good 2) (later .0) .0
+  coordinate-good (suc zero) h = both-of (good 1) (good 2) (both-of (good 0) (good 1 && good 2) (later .0) .1) .0
+  coordinate-good (suc (suc zero)) h = both-of (good 1) (good 2) (both-of (good 0) (good 1 && good 2) (later .0) .1) .1
+  coordinate-good (suc (suc (suc a))) h = absurd (omega arith)
+
+-- ---- a row that passes
+row-good : (clock : List ℕ) (n i k m : ℕ) → goodRowTo clock n i k ≡ true → m < k → goodEntry i (i + m) (entryAt clock n i (i + m)) ≡ true
+unfolding goodRowTo
+row-good clock n i zero m e h = absurd (omega arith)
+row-good clock n i (suc k) m e h =
+    let p = both-of (goodRowTo clock n i k) (goodEntry i (i + k) (entryAt clock n i (i + k))) e in
+    go (eq-or-lt-of-le (let q : m ≤ k = omega arith in q)) (p .1) (λ q. row-good clock n i k m (p .0) q)
+  where
+    go : (m ≡ k) ⊎ (m < k) → goodEntry i (i + k) (entryAt clock n i (i + k)) ≡ true
+        → (m < k → goodEntry i (i + m) (entryAt clock n i (i + m)) ≡ true) → goodEntry i (i + m) (entryAt clock n i (i + m)) ≡ true
+    go (inl q) c f = rw q c
+    go (inr q) c f = f q
+
+entry-good : (clock : List ℕ) (n i j : ℕ) → firstTo (checkRow clock n) n ≡ Passed → i ≤ j → j < n → goodEntry i j (entryAt clock n i j) ≡ true
+entry-good clock n i j e h l =
+    let d : i + (j - i) ≡ j = omega arith in
+    rw d at (row-good clock n i (n - i) (j - i) (good-of _ (BadField (100 + i)) (first-of (checkRow clock n) n i e (omega arith))) (omega arith))
+
+upper : (clock : List ℕ) (n i j : ℕ) → i ≤ j → j < n → upperAt clock n (i * n + j) ≡ entryAt clock n i j
+unfolding upperAt
+upper clock n i j h l = rw (digits-div i l, digits-mod i l, le-leb i j h)
+
+-- ---- an altitude that passes
+tested : (kind : ℕ) (metres : Float) → goodAltitude kind metres ≡ true → goodMetres metres ≡ true
+unfolding goodAltitude
+tested kind metres e = both-of (eqb kind 1 || eqb kind 2) (goodMetres metres) e .1
+
+metres-good : (alt : Option (List ℕ)) → checkAltitude alt ≡ Passed → altitudeGood (altitudeOf alt) ≡ true
+metres-good none e = refl
+metres-good (some a) e = go (eqb (kindAt a) 1) (tested (kindAt a) (metresAt a) (good-of (goodAltitude (kindAt a) (metresAt a)) (BadField 200) e))
+  where
+    go : (first : Bool) → goodMetres (metresAt a) ≡ true → altitudeGood (cond first (Barometric (metresAt a)) (Gnss (metresAt a))) ≡ true
+    go true f = f
+    go false f = f
+
+-- ---- all that was read
+module _ (rs : List ℕ) (there : Bool) (b : List ℕ) (alt ref : Option (List ℕ)) (e : checkInputs rs (given there b) alt ref ≡ Passed) where
+  abbrev n : ℕ
+  n = countOf rs
+
+  abbrev from : ℕ → Reception
+  from = receptionAt rs
+
+  small : n ≤ 32
+  small = few rs alt ref (given there b) e
+
+  passes : (i : ℕ) → i < n → checkReception from i ≡ Passed
+  passes i h = first-of (checkReception from) n i (passed-receptions rs alt ref (given there b) e) h
+
+  pub ascending : Ascending from n
+  unfolding ascends
+  ascending i h = ltb-true _ _ (above-before from (suc i) (passes (suc i) h))
+
+  sites-good : (k : ℕ) → k < 3 * n → goodCoordinate (getD (fillTo (wholes 96) (λ k. getD (from (k / 3) .«site_mm») (k % 3) (pos 0)) (3 * n)) k (pos 0)) ≡ true
+  sites-good k h =
+      let s = small in
+      rw (fill-at (wholes 96) (λ k. getD (from (k / 3) .«site_mm») (k % 3) (pos 0)) (3 * n) k (pos 0) h (rw length-replicate (omega arith)))
+      (coordinate-good from (k / 3) (passes (k / 3) (omega arith)) (k % 3) (omega arith))
+
+  clock-good : (i j : ℕ) → i ≤ j → j < n → goodEntry i j (at (covarianceOf b n) n i j) ≡ true
+  clock-good i j h l =
+      let s = small in
+      let w : i < n = omega arith in
+      let p = place i j n w l in
+      let q = room n s in
+      rw (fill-at (floats 1024) (upperAt b n) (n * n) (i * n + j) nan p (rw length-replicate (omega (arith, p, q))), upper b n i j h l)
+      (entry-good b n i j (clock-of there b n (passed-clock rs alt ref (given there b) e) (is-covered rs alt ref (given there b) e) .1) h l)
+
+  pub in-domain : InDomain (problemOf rs b alt ref)
+  unfolding problemOf receptionsOf
+  in-domain =
+      record {
+        few = small;
+        times = λ i h. rw (fill-at (wholes 32) (λ i. from i .time) n i (pos 0) h (rw length-replicate (let s = small in omega arith))) (time-good from i (passes i h));
+        sites = sites-good;
+        zs = λ i h. rw (fill-at (floats 32) (λ i. from i .z) n i nan h (rw length-replicate (let s = small in omega arith))) (z-good from i (passes i h));
+        noises = λ i h. rw (fill-at (floats 32) (λ i. from i .«noise_m2») n i nan h (rw length-replicate (let s = small in omega arith))) (noise-good from i (passes i h));
+        clock = clock-good;
+        altitude = metres-good alt (passed-altitude rs alt ref (given there b) e);
+      }

@@ -1,0 +1,31 @@
+-- `inputs::altitude_of` meets its contract: by whether it is there, and its kind. Assumes nothing.
+use borrow.Author.Needs.{needs}
+use borrow.Author.Tests.{eq-eqb, ne-eqb}
+use Rattle.inputs.proofs.Steps.{sized-there}
+use Rattle.inputs.proofs.altitude_of.Statement.{statement}
+use Rattle.inputs.proofs.altitude_of.Tie as tie
+
+metres-at-requires : tie.Need-metres-at-requires
+metres-at-requires c κs = sized-there 16 (c .before .before .args .there) (c .before .before .args .altitude .now) (c .if1 .taken) (c .before .before .pre)
+
+kind-at-requires : tie.Need-kind-at-requires
+kind-at-requires c κs = sized-there 16 (c .before .before .before .args .there) (c .before .before .before .args .altitude .now) (c .before .if1 .taken) (c .before .before .before .pre)
+
+returns : tie.Need-returns
+returns c = rw (c .before .before .before .if1 .taken, ← c .before .before .metres-at .ensures, ← c .before .kind-at .ensures, eq-eqb _ _ (c .if2 .taken))
+
+returns-2 : tie.Need-returns-2
+returns-2 c = rw (c .before .before .before .if1 .taken, ← c .before .before .metres-at .ensures, ← c .before .kind-at .ensures, ne-eqb _ _ (c .if2 .left))
+
+returns-3 : tie.Need-returns-3
+returns-3 c = search needs
+
+pub altitude-of-spec : {M : Type 1} → statement M
+altitude-of-spec =
+    tie.close
+    (tie.spec
+    metres-at-requires
+    kind-at-requires
+    returns
+    returns-2
+    returns-3)

@@ -1,0 +1,30 @@
+-- What holds of every problem that was read: document 01's domain. Statements only.
+use mathlib.Core.Path.{_≡_}
+use mathlib.Core.Bool.{Bool, true}
+use Prim.Native.Nat.{ℕ, suc, _*_, _<_, _≤_}
+use lib.IntN.{pos}
+use lib.ListN.{getD}
+use Rattle.dense.specs.Entries.{nth, at}
+use Rattle.problem.specs.declared.Altitude.{Altitude}
+use Rattle.problem.specs.declared.Altitude.the-variants.{None, Barometric, Gnss}
+use Rattle.problem.specs.declared.Problem.{Problem}
+use Rattle.inputs.specs.declared.Reception.{Reception}
+use Rattle.inputs.specs.Domain.{goodTime, goodCoordinate, goodZ, goodNoise, goodEntry, goodMetres}
+
+abbrev pub altitudeGood : Altitude → Bool
+altitudeGood None = true
+altitudeGood (Barometric metres) = goodMetres metres
+altitudeGood (Gnss metres) = goodMetres metres
+
+pub record InDomain (p : Problem) : Type 0 where
+  pub few : p .n ≤ 32
+  pub times : (i : ℕ) → i < p .n → goodTime (getD (p .time) i (pos 0)) ≡ true
+  pub sites : (k : ℕ) → k < 3 * p .n → goodCoordinate (getD (p .«site_mm») k (pos 0)) ≡ true
+  pub zs : (i : ℕ) → i < p .n → goodZ (nth (p .z) i) ≡ true
+  pub noises : (i : ℕ) → i < p .n → goodNoise (nth (p .«noise_m2») i) ≡ true
+  pub clock : (i j : ℕ) → i ≤ j → j < p .n → goodEntry i j (at (p .«clock_m2») (p .n) i j) ≡ true
+  pub altitude : altitudeGood (p .altitude) ≡ true
+
+-- "identities strictly ascending": of the first n receptions
+abbrev pub Ascending : (ℕ → Reception) → ℕ → Type 0
+Ascending at n = (i : ℕ) → suc i < n → at i .id < at (suc i) .id

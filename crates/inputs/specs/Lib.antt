@@ -1,0 +1,5 @@
+pub mod Faults
+pub mod Files
+pub mod Domain
+pub mod Inputs
+pub mod InDomain

@@ -1,0 +1,86 @@
+// The domain of document 01, every end included.
+ghost use mathlib.Core.Path.{_≡_};
+ghost use mathlib.Core.Bool.{_&&_};
+ghost use Rattle.inputs.specs.Domain as domain;
+use crate::Reception;
+
+// Picoseconds, millimetres, metres, square metres and metres, by document 01.
+const TIME: i64 = 10_000_000_000_000;
+
+const COORDINATE: i64 = 10_000_000_000;
+
+const Z: f64 = 3e9;
+
+const LEAST_NOISE: f64 = 1e-6;
+
+const NOISE: f64 = 1e12;
+
+const CLOCK: f64 = 1e12;
+
+const ALTITUDE: f64 = 100_000.0;
+
+pub fn both(a: bool, b: bool) -> bool
+    ensures { λ r. ⌜ r ≡ (a && b) ⌝ }
+{
+    if a {
+        return b;
+    }
+    false
+}
+
+fn between(low: i64, high: i64, x: i64) -> bool
+    ensures { λ r. ⌜ r ≡ domain.between low high x ⌝ }
+{
+    both(low <= x, x <= high)
+}
+
+// A not-a-number is within no limits, and -0 within those from 0.
+fn within(low: f64, high: f64, x: f64) -> bool
+    ensures { λ r. ⌜ r ≡ domain.within low high x ⌝ }
+{
+    both(low <= x, x <= high)
+}
+
+fn good_coordinate(x: i64) -> bool
+    ensures { λ r. ⌜ r ≡ domain.goodCoordinate x ⌝ }
+{
+    between(-COORDINATE, COORDINATE, x)
+}
+
+fn good_site(site: [i64; 3]) -> bool
+    ensures { λ r. ⌜ r ≡ domain.goodSite site ⌝ }
+{
+    both(
+        good_coordinate(site[0]),
+        both(good_coordinate(site[1]), good_coordinate(site[2])),
+    )
+}
+
+pub fn good_reception(r: Reception) -> bool
+    ensures { λ g. ⌜ g ≡ domain.goodReception r ⌝ }
+{
+    let timed = between(0, TIME, r.time);
+    let site = r.site_mm;
+    let placed = good_site(site);
+    let measured = both(within(0.0, Z, r.z), within(LEAST_NOISE, NOISE, r.noise_m2));
+    both(timed, both(placed, both(measured, r.filler == 0)))
+}
+
+// The clock covariance of receptions i and j, for i on or left of j.
+pub fn good_entry(i: usize, j: usize, x: f64) -> bool
+    ensures { λ r. ⌜ r ≡ domain.goodEntry i j x ⌝ }
+{
+    if i == j {
+        return within(0.0, CLOCK, x);
+    }
+    within(-CLOCK, CLOCK, x)
+}
+
+pub fn good_altitude(kind: u64, metres: f64) -> bool
+    ensures { λ r. ⌜ r ≡ domain.goodAltitude kind metres ⌝ }
+{
+    if kind == 1 {
+        return within(-ALTITUDE, ALTITUDE, metres);
+    }
+    both(kind == 2, within(-ALTITUDE, ALTITUDE, metres))
+}

@@ -1,0 +1,365 @@
+// The four inputs of a solve: what document 01 turns away of them, and the problem that they hold.
+mod domain;
+mod files;
+
+ghost use mathlib.Core.Path.{_≡_};
+ghost use mathlib.Core.Bool.{true};
+ghost use Prim.Native.Nat.{_+_, _*_, _<_, _≤_};
+ghost use lib.IntN.{pos};
+ghost use lib.ListN.{length, set, getD};
+ghost use Rattle.dense.specs.Entries.{nth};
+ghost use Rattle.inputs.specs.Faults as faults;
+ghost use Rattle.inputs.specs.Files as files;
+ghost use Rattle.inputs.specs.Inputs as inputs;
+ghost use Rattle.inputs.specs.InDomain.{InDomain, Ascending};
+use problem::Altitude;
+use problem::Problem;
+
+// What is wrong with the inputs. A bad field's number is the place of its reception, 100 and the
+// row of its clock entry, or 200 for the altitude; a disorder's is the place of the reception whose
+// identity is not above the one before.
+pub enum Fault {
+    TornInput,
+    TooMany,
+    Disorder(u32),
+    BadField(u32),
+    ClockSize,
+    Uncovered,
+}
+
+pub enum Check {
+    Passed,
+    Refused(Fault),
+}
+
+// Which of the inputs that may be absent are there. Absent receptions are empty ones.
+pub struct Given {
+    pub clock: bool,
+    pub altitude: bool,
+    pub reference: bool,
+}
+
+// A reception as its bytes have it: `Item` of solve.rs, and eight bytes that are to be zero.
+pub struct Reception {
+    pub id: u64,
+    pub time: i64,
+    pub site_mm: [i64; 3],
+    pub z: f64,
+    pub noise_m2: f64,
+    pub filler: u64,
+}
+
+// The receptions of a problem, as arrays by field.
+struct Receptions {
+    time: [i64; 32],
+    site_mm: [i64; 96],
+    site: [f64; 96],
+    z: [f64; 32],
+    noise_m2: [f64; 32],
+}
+
+// Document 01's number of a refusal.
+pub fn number_of(fault: Fault) -> u32
+    ensures { λ r. ⌜ r ≡ faults.numberOf fault ⌝ }
+{
+    match fault {
+        Fault::TornInput => 15,
+        Fault::TooMany => 10,
+        Fault::Disorder(i) => 11,
+        Fault::BadField(place) => 12,
+        Fault::ClockSize => 13,
+        Fault::Uncovered => 7,
+    }
+}
+
+// Document 01's detail of a refusal.
+pub fn detail_of(fault: Fault) -> u32
+    ensures { λ r. ⌜ r ≡ faults.detailOf fault ⌝ }
+{
+    match fault {
+        Fault::TornInput => 0,
+        Fault::TooMany => 0,
+        Fault::Disorder(i) => i,
+        Fault::BadField(place) => place,
+        Fault::ClockSize => 0,
+        Fault::Uncovered => 0,
+    }
+}
+
+// The first of two checks that refuses.
+fn or_else(first: Check, later: Check) -> Check
+    ensures { λ r. ⌜ r ≡ faults.orElse first later ⌝ }
+{
+    match first {
+        Check::Refused(fault) => Check::Refused(fault),
+        Check::Passed => later,
+    }
+}
+
+fn unless(good: bool, fault: Fault) -> Check
+    ensures { λ r. ⌜ r ≡ faults.unless good fault ⌝ }
+{
+    if good {
+        return Check::Passed;
+    }
+    Check::Refused(fault)
+}
+
+// Whether the identity of reception i is above the one before.
+fn ascends(receptions: &[u8], i: usize) -> bool
+    requires { ⌜ files.receptionBytes * i + files.receptionBytes ≤ length (now receptions) ⌝ }
+    ensures { λ r. ⌜ r ≡ inputs.ascends (files.receptionAt (now (receptions .entry))) i ⌝ }
+{
+    if i == 0 {
+        return true;
+    }
+    files::id_at(receptions, i - 1) < files::id_at(receptions, i)
+}
+
+fn check_reception(receptions: &[u8], i: usize) -> Check
+    requires { ⌜ (files.receptionBytes * i + files.receptionBytes ≤ length (now receptions)) × (i < 32) ⌝ }
+    ensures { λ r. ⌜ r ≡ inputs.checkReception (files.receptionAt (now (receptions .entry))) i ⌝ }
+{
+    let r = files::reception_at(receptions, i);
+    let place = i as u32;
+    let field = unless(domain::good_reception(r), Fault::BadField(place));
+    let order = unless(ascends(receptions, i), Fault::Disorder(place));
+    or_else(field, order)
+}
+
+fn check_receptions(receptions: &[u8], n: usize) -> Check
+    requires { ⌜ (files.receptionBytes * n ≤ length (now receptions)) × (n ≤ 32) ⌝ }
+    ensures { λ r. ⌜ r ≡ faults.firstTo (inputs.checkReception (files.receptionAt (now (receptions .entry)))) n ⌝ }
+{
+    let mut found = Check::Passed;
+    for i in 0..n {
+        found = or_else(found, check_reception(receptions, i));
+    }
+    found
+}
+
+// Whether the entries of row i on and right of the diagonal are in the domain.
+fn good_row(clock: &[u8], n: usize, i: usize) -> bool
+    requires { ⌜ (n ≤ 32) × (i < n) × (length (now clock) ≡ 8 * (n * n)) ⌝ }
+    ensures { λ r. ⌜ r ≡ inputs.goodRow (now (clock .entry)) n i ⌝ }
+{
+    let mut good = true;
+    for j in i..n {
+        let entry = files::entry_at(clock, n, i, j);
+        good = domain::both(good, domain::good_entry(i, j, entry));
+    }
+    good
+}
+
+fn check_row(clock: &[u8], n: usize, i: usize) -> Check
+    requires { ⌜ (n ≤ 32) × (i < n) × (length (now clock) ≡ 8 * (n * n)) ⌝ }
+    ensures { λ r. ⌜ r ≡ inputs.checkRow (now (clock .entry)) n i ⌝ }
+{
+    unless(good_row(clock, n, i), Fault::BadField(100 + i as u32))
+}
+
+fn check_rows(clock: &[u8], n: usize) -> Check
+    requires { ⌜ (n ≤ 32) × (length (now clock) ≡ 8 * (n * n)) ⌝ }
+    ensures { λ r. ⌜ r ≡ faults.firstTo (inputs.checkRow (now (clock .entry)) n) n ⌝ }
+{
+    let mut found = Check::Passed;
+    for i in 0..n {
+        found = or_else(found, check_row(clock, n, i));
+    }
+    found
+}
+
+fn check_clock(there: bool, clock: &[u8], n: usize) -> Check
+    requires { ⌜ n ≤ 32 ⌝ }
+    ensures { λ r. ⌜ r ≡ inputs.checkClock (inputs.given there (now (clock .entry))) n ⌝ }
+{
+    if !there {
+        return Check::Passed;
+    }
+    if clock.len() != 8 * (n * n) {
+        return Check::Refused(Fault::ClockSize);
+    }
+    check_rows(clock, n)
+}
+
+fn check_altitude(there: bool, altitude: &[u8]) -> Check
+    requires { ⌜ inputs.sized files.altitudeBytes (inputs.given there (now altitude)) ≡ true ⌝ }
+    ensures { λ r. ⌜ r ≡ inputs.checkAltitude (inputs.given there (now (altitude .entry))) ⌝ }
+{
+    if !there {
+        return Check::Passed;
+    }
+    let good = domain::good_altitude(files::kind_at(altitude), files::metres_at(altitude));
+    unless(good, Fault::BadField(200))
+}
+
+// Absent, or of so many bytes.
+fn sized(there: bool, bytes: &[u8], size: usize) -> bool
+    ensures { λ r. ⌜ r ≡ inputs.sized size (inputs.given there (now (bytes .entry))) ⌝ }
+{
+    if there {
+        return bytes.len() == size;
+    }
+    true
+}
+
+// What document 01 turns the inputs away for, in its order. Its 14 comes before, with the output.
+pub fn check_inputs(
+    receptions: &[u8],
+    g: Given,
+    clock: &[u8],
+    altitude: &[u8],
+    reference: &[u8],
+) -> Check
+    ensures { λ r. ⌜ r ≡ inputs.checkInputs (now (receptions .entry)) (inputs.given (g .clock) (now (clock .entry))) (inputs.given (g .altitude) (now (altitude .entry))) (inputs.given (g .reference) (now (reference .entry))) ⌝ }
+{
+    if receptions.len() % files::RECEPTION != 0 {
+        return Check::Refused(Fault::TornInput);
+    }
+    if !sized(g.altitude, altitude, files::ALTITUDE) {
+        return Check::Refused(Fault::TornInput);
+    }
+    if !sized(g.reference, reference, files::REFERENCE) {
+        return Check::Refused(Fault::TornInput);
+    }
+    let n = receptions.len() / files::RECEPTION;
+    if 32 < n {
+        return Check::Refused(Fault::TooMany);
+    }
+    let first = check_receptions(receptions, n);
+    let second = check_clock(g.clock, clock, n);
+    let third = check_altitude(g.altitude, altitude);
+    let last = unless(g.clock, Fault::Uncovered);
+    or_else(first, or_else(second, or_else(third, last)))
+}
+
+fn put_mm(out: &mut [i64; 96], i: usize, site: [i64; 3])
+    requires { ⌜ i < 32 ⌝ }
+    ensures { λ _. ⌜ now (out .exit) ≡ set (set (set (now (out .entry)) (3 * i) (getD site 0 (pos 0))) (3 * i + 1) (getD site 1 (pos 0))) (3 * i + 2) (getD site 2 (pos 0)) ⌝ }
+{
+    let at = 3 * i;
+    out[at] = site[0];
+    out[at + 1] = site[1];
+    out[at + 2] = site[2];
+}
+
+fn put_metres(out: &mut [f64; 96], i: usize, site: [f64; 3])
+    requires { ⌜ i < 32 ⌝ }
+    ensures { λ _. ⌜ now (out .exit) ≡ set (set (set (now (out .entry)) (3 * i) (nth site 0)) (3 * i + 1) (nth site 1)) (3 * i + 2) (nth site 2) ⌝ }
+{
+    let at = 3 * i;
+    out[at] = site[0];
+    out[at + 1] = site[1];
+    out[at + 2] = site[2];
+}
+
+fn receptions_of(receptions: &[u8], n: usize) -> Receptions
+    requires { ⌜ (files.receptionBytes * n ≤ length (now receptions)) × (n ≤ 32) ⌝ }
+    ensures { λ r. ⌜ r ≡ inputs.receptionsOf (files.receptionAt (now (receptions .entry))) n ⌝ }
+{
+    let mut time = [0i64; 32];
+    let mut site_mm = [0i64; 96];
+    let mut site = [0.0; 96];
+    let mut z = [0.0; 32];
+    let mut noise_m2 = [0.0; 32];
+    for i in 0..n {
+        let r = files::reception_at(receptions, i);
+        let t = r.time;
+        let mm = r.site_mm;
+        time[i] = t;
+        put_mm(&mut site_mm, i, mm);
+        put_metres(&mut site, i, geo::from_mm(mm));
+        z[i] = r.z;
+        noise_m2[i] = r.noise_m2;
+    }
+    Receptions {
+        time,
+        site_mm,
+        site,
+        z,
+        noise_m2,
+    }
+}
+
+// Entry k of the clock covariance, row by row: 0 left of the diagonal, where nothing is read.
+fn upper_at(clock: &[u8], n: usize, k: usize) -> f64
+    requires { ⌜ (n ≤ 32) × (k < n * n) × (length (now clock) ≡ 8 * (n * n)) ⌝ }
+    ensures { λ r. ⌜ r ≡ inputs.upperAt (now (clock .entry)) n k ⌝ }
+{
+    let i = k / n;
+    let j = k % n;
+    if i <= j {
+        return files::entry_at(clock, n, i, j);
+    }
+    0.0
+}
+
+// The clock covariance of n receptions.
+fn covariance_of(clock: &[u8], n: usize) -> [f64; 1024]
+    requires { ⌜ (n ≤ 32) × (length (now clock) ≡ 8 * (n * n)) ⌝ }
+    ensures { λ r. ⌜ r ≡ inputs.covarianceOf (now (clock .entry)) n ⌝ }
+{
+    let mut out = [0.0; 1024];
+    for k in 0..n * n {
+        out[k] = upper_at(clock, n, k);
+    }
+    out
+}
+
+fn altitude_of(there: bool, altitude: &[u8]) -> Altitude
+    requires { ⌜ inputs.sized files.altitudeBytes (inputs.given there (now altitude)) ≡ true ⌝ }
+    ensures { λ r. ⌜ r ≡ inputs.altitudeOf (inputs.given there (now (altitude .entry))) ⌝ }
+{
+    if there {
+        let metres = files::metres_at(altitude);
+        if files::kind_at(altitude) == 1 {
+            return Altitude::Barometric(metres);
+        }
+        return Altitude::Gnss(metres);
+    }
+    Altitude::None
+}
+
+fn reference_of(there: bool, reference: &[u8]) -> i64
+    requires { ⌜ inputs.sized files.referenceBytes (inputs.given there (now reference)) ≡ true ⌝ }
+    ensures { λ r. ⌜ r ≡ inputs.referenceOf (inputs.given there (now (reference .entry))) ⌝ }
+{
+    if there {
+        return words::i64_at(reference, 0);
+    }
+    0
+}
+
+// The problem of inputs that nothing is wrong with.
+pub fn problem_of(
+    receptions: &[u8],
+    g: Given,
+    clock: &[u8],
+    altitude: &[u8],
+    reference: &[u8],
+) -> Problem
+    requires { ⌜ inputs.checkInputs (now receptions) (inputs.given (g .clock) (now clock)) (inputs.given (g .altitude) (now altitude)) (inputs.given (g .reference) (now reference)) ≡ faults.passed ⌝ }
+    ensures { λ r. ⌜ (r ≡ inputs.problemOf (now (receptions .entry)) (now (clock .entry)) (inputs.given (g .altitude) (now (altitude .entry))) (inputs.given (g .reference) (now (reference .entry)))) × InDomain r × Ascending (files.receptionAt (now (receptions .entry))) (r .n) ⌝ }
+{
+    let n = receptions.len() / files::RECEPTION;
+    let r = receptions_of(receptions, n);
+    let clock_m2 = covariance_of(clock, n);
+    let given_altitude = altitude_of(g.altitude, altitude);
+    let reference_ps = reference_of(g.reference, reference);
+    let time = r.time;
+    let site_mm = r.site_mm;
+    let site = r.site;
+    let z = r.z;
+    let noise_m2 = r.noise_m2;
+    Problem {
+        n,
+        time,
+        site_mm,
+        site,
+        z,
+        noise_m2,
+        clock_m2,
+        altitude: given_altitude,
+        reference_ps,
+    }
+}

@@ -1,0 +1,94 @@
+-- The claim of demand 3 holds of the computation's answer, and of no other. Assumes nothing.
+use mathlib.Core.Path.{_≡_, refl, sym, ap, _∙_}
+use mathlib.Core.Logic.{_⊎_, inl, inr}
+use mathlib.Core.Option.{Option, none}
+use Prim.Native.Nat.{ℕ, suc, _+_, _*_, _-_, _≤_}
+use native.Mathlib.Omega.{arith}
+use Rattle.sets.specs.Sets.{Subset}
+use Rattle.rounds.specs.declared.answer.Refusal.{Refusal}
+use Rattle.rounds.specs.declared.finish.Unpublished.{Unpublished}
+use Rattle.rounds.specs.Setting.{Outcome, fails, gives, ofUnpublished, Answer, fix, refused, noFixedPoint, Setting, kept, survivors}
+use Rattle.rounds.specs.Rounds.{closed, roundsTo, solved}
+use Rattle.rounds.specs.Demand.{Settled, Ends, Reach, Fixed, Late, Refused, Unfixed, Claim}
+use Rattle.rounds.proofs.Chains.{all-kept, chain-within, after-chain, after-settled, after-end, Run, ended, settled, never, run}
+
+module _ {Q F X : Type 0} (P : Setting Q F X) where
+  abbrev cap : ℕ
+  cap = 2 * survivors P + 2
+
+  -- ---- the three kinds of answer are apart
+
+  closed-fix : (x : X) (o : Outcome Unpublished X) → closed o ≡ fix x → o ≡ gives x
+  closed-fix x (fails e) h = absurd (let z : _≡_ {A = ℕ} 0 1 = cc in omega arith)
+  closed-fix x (gives y) h = cc
+
+  closed-refused : (e : Refusal) (o : Outcome Unpublished X) → closed o ≡ refused e → (t : Unpublished) × (o ≡ fails t) × (e ≡ ofUnpublished t)
+  closed-refused e (fails t) h = (t, refl, cc)
+  closed-refused e (gives y) h = absurd (let z : _≡_ {A = ℕ} 0 1 = cc in omega arith)
+
+  closed-never : (o : Outcome Unpublished X) → closed o ≡ noFixedPoint → ⊥
+  closed-never (fails e) h = let z : _≡_ {A = ℕ} 0 1 = cc in omega arith
+  closed-never (gives y) h = let z : _≡_ {A = ℕ} 0 1 = cc in omega arith
+
+  -- ---- from the answer to the rounds
+  module _ (a : Answer X) where
+    fixed-of : (x : X) → a ≡ fix x → Run P cap (kept P) none a → Fixed P x
+    fixed-of x h (ended k e l s w q) = absurd (let z : _≡_ {A = ℕ} 0 1 = cc in omega arith)
+    fixed-of x h (never s q) = absurd (let z : _≡_ {A = ℕ} 0 1 = cc in omega arith)
+    fixed-of x h (settled {E = E} {q = p} k f l s w q) =
+        record { changes = k; inTime = omega arith; used = E; before = p; chain = s; best = f; settled = w; shown = closed-fix x (P .later E f) (sym q ∙ h) }
+
+    refused-of : (e : Refusal) → a ≡ refused e → Run P cap (kept P) none a → Refused P e
+    refused-of e h (ended {E = E} {q = p} k d l s w q) =
+        let c : d ≡ e = cc in
+        record { changes = k; inTime = omega arith; last = E; before = p; chain = s; why = inl (rw c at w) }
+    refused-of e h (never s q) = absurd (let z : _≡_ {A = ℕ} 0 1 = cc in omega arith)
+    refused-of e h (settled {E = E} {q = p} k f l s w q) =
+        let c = closed-refused e (P .later E f) (sym q ∙ h) in
+        record { changes = k; inTime = omega arith; last = E; before = p; chain = s; why = inr (record { best = f; settled = w; test = c .0; refuses = c .1; is = c .2 }) }
+
+    unfixed-of : a ≡ noFixedPoint → Run P cap (kept P) none a → Unfixed P
+    unfixed-of h (ended k e l s w q) = absurd (let z : _≡_ {A = ℕ} 0 1 = cc in omega arith)
+    unfixed-of h (never {E = E} {q = p} s q) = record { last = E; before = p; chain = s }
+    unfixed-of h (settled {E = E} k f l s w q) = absurd (closed-never (P .later E f) (sym q ∙ h))
+
+  -- ---- from the rounds to the answer
+  settles : (k : ℕ) (S : Subset) (p : Option Q) (f : F) → k ≤ 2 * survivors P + 1 → Reach P k S p → Settled P S p f → solved P ≡ closed (P .later S f)
+  unfolding solved
+  settles k S p f l c h = after-chain P c (all-kept P) cap (suc (cap - suc k)) (omega arith) ∙ after-settled P S p f (cap - suc k) (chain-within P c (all-kept P)) h
+
+  ends : (k : ℕ) (S : Subset) (p : Option Q) (e : Refusal) → k ≤ 2 * survivors P + 1 → Reach P k S p → Ends P S p e → solved P ≡ refused e
+  unfolding solved
+  ends k S p e l c h = after-chain P c (all-kept P) cap (suc (cap - suc k)) (omega arith) ∙ after-end P S p e (cap - suc k) (chain-within P c (all-kept P)) h
+
+  of-fixed : (x : X) → Fixed P x → solved P ≡ fix x
+  of-fixed x h = settles (h .changes) (h .used) (h .before) (h .best) (h .inTime) (h .chain) (h .settled) ∙ ap (closed) (h .shown)
+
+  of-refused : (e : Refusal) → Refused P e → solved P ≡ refused e
+  of-refused e h = go (h .why)
+    where
+      go : Ends P (h .last) (h .before) e ⊎ Late P (h .last) (h .before) e → solved P ≡ refused e
+      go (inl w) = ends (h .changes) (h .last) (h .before) e (h .inTime) (h .chain) w
+      go (inr w) = settles (h .changes) (h .last) (h .before) (w .best) (h .inTime) (h .chain) (w .settled) ∙ ap (closed) (w .refuses) ∙ ap refused (sym (w .is))
+
+  of-unfixed : Unfixed P → solved P ≡ noFixedPoint
+  unfolding solved roundsTo
+  of-unfixed h = after-chain P (h .chain) (all-kept P) cap 0 (omega arith)
+
+  solved-run : Run P cap (kept P) none (solved P)
+  unfolding solved
+  solved-run = run P cap (kept P) none (all-kept P)
+
+  -- ---- the claim holds of the computation's answer
+  pub claim : Claim P (solved P)
+  claim = record {
+    fixed = λ x. ((λ e. fixed-of (solved P) x e solved-run), of-fixed x);
+    refusals = λ e. ((λ q. refused-of (solved P) e q solved-run), of-refused e);
+    unfixed = ((λ q. unfixed-of (solved P) q solved-run), of-unfixed);
+  }
+
+  -- and of no other
+  pub only : (a : Answer X) → Claim P a → a ≡ solved P
+  only (fix x) c = sym (claim .fixed x .1 (c .fixed x .0 refl))
+  only (refused e) c = sym (claim .refusals e .1 (c .refusals e .0 refl))
+  only noFixedPoint c = sym (claim .unfixed .1 (c .unfixed .0 refl))

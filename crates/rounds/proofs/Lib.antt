@@ -1,0 +1,15 @@
+-- Demand 3 holds of the computation, and of one answer only; the laws of the code's parts.
+pub mod Choices
+pub mod Steps
+pub mod Chains
+pub mod Claim
+pub mod Moments
+pub mod Certainty
+pub mod Finished
+pub mod Searches
+pub mod Points
+pub mod Gathering
+pub mod Late
+pub mod Turns
+pub mod Runs
+pub mod Found

@@ -1,0 +1,29 @@
+-- `fitting::subset` meets its contract, call by call: the indices are below n, of which there are at most 32. Assumes nothing.
+use borrow.Author.Needs.{needs}
+use mathlib.Core.Path.{refl}
+use native.Mathlib.Nat.{lt-of-lt-of-le}
+use Rattle.sets.specs.Mask.{has}
+use Rattle.rounds.proofs.Gathering.{few, picks}
+use Rattle.rounds.proofs.fitting.subset.Statement.{statement}
+use Rattle.rounds.proofs.fitting.subset.Tie as tie
+
+members-requires : tie.Need-members-requires
+members-requires c κs = search needs
+
+gather-sites-requires : tie.Need-gather-sites-requires
+gather-sites-requires c κs = rw (c .before .before .members .ensures .0, c .before .before .members .ensures .1) (few (has (c .before .before .before .before .args .included)) (c .before .before .before .before .args .n) (c .before .before .before .before .pre), λ a h. lt-of-lt-of-le (picks (has (c .before .before .before .before .args .included)) (c .before .before .before .before .args .n) (c .before .before .before .before .pre) a h) (c .before .before .before .before .pre))
+
+gather-requires : tie.Need-gather-requires
+gather-requires c κs = rw (c .before .before .before .before .before .members .ensures .0, c .before .before .before .before .before .members .ensures .1) (few (has (c .before .before .before .before .before .before .before .args .included)) (c .before .before .before .before .before .before .before .args .n) (c .before .before .before .before .before .before .before .pre), λ a h. lt-of-lt-of-le (picks (has (c .before .before .before .before .before .before .before .args .included)) (c .before .before .before .before .before .before .before .args .n) (c .before .before .before .before .before .before .before .pre) a h) (c .before .before .before .before .before .before .before .pre))
+
+returns : tie.Need-returns
+returns c = rw (c .gather .ensures, c .before .before .before .gather-sites .ensures, c .before .before .before .before .before .before .members .ensures .1, c .before .before .before .before .before .before .members .ensures .0) refl
+
+pub subset-spec : {M : Type 1} → statement M
+subset-spec =
+    tie.close
+    (tie.spec
+    members-requires
+    gather-sites-requires
+    gather-requires
+    returns)

@@ -1,0 +1,59 @@
+-- `outliers::residuals` meets its contract: after i turns the array holds the first i residuals. Assumes nothing.
+use borrow.Author.Needs.{needs}
+use mathlib.Core.Path.{_≡_, refl}
+use Prim.Native.Nat.{_-_, _≤_}
+use native.Mathlib.Omega.{arith}
+use native.Mathlib.Numerals.{add-one}
+use lib.ListN.{replicate}
+use Rattle.binary64.specs.Steps.{nought}
+use Rattle.whitening.specs.Whitened.{fillTo}
+use Rattle.rounds.specs.Solve.{normalised}
+use Rattle.rounds.proofs.outliers.residuals.Statement.{statement}
+use Rattle.rounds.proofs.outliers.residuals.Tie as tie
+
+abbrev Inv-loop : tie.InvT-loop
+Inv-loop site z noise clock n params out₀ i₀ out i = (i ≤ n) × (out ≡ fillTo (normalised site z noise clock n params) (replicate 32 nought) i)
+
+abbrev μ-loop : tie.MeasureT-loop
+μ-loop site z noise clock n params out₀ i₀ out i = n - i
+
+loop-holds : tie.Need-loop-holds Inv-loop μ-loop
+unfolding fillTo
+loop-holds c = (omega arith, refl)
+
+normalised-requires : tie.Need-normalised-requires Inv-loop μ-loop
+normalised-requires c κs = search needs
+
+mul-out : tie.Need-mul-out Inv-loop μ-loop
+mul-out c = search needs
+
+array-write-out : tie.Need-array-write-out Inv-loop μ-loop
+array-write-out c = search needs
+
+add-i : tie.Need-add-i Inv-loop μ-loop
+add-i c = search needs
+
+loop-less : tie.Need-loop-less Inv-loop μ-loop
+loop-less c = search needs
+
+loop-again : tie.Need-loop-again Inv-loop μ-loop
+unfolding fillTo
+loop-again c = (omega arith, rw (add-one, ← c .before .before .loop .inv .1, c .normalised .ensures) refl)
+
+returns : tie.Need-returns Inv-loop μ-loop
+returns c = let e : c .before .loop .i ≡ c .before .before .args .n = omega arith in rw e at (c .before .loop .inv .1)
+
+pub residuals-spec : {M : Type 1} → statement M
+residuals-spec =
+    tie.close
+    (tie.spec
+    Inv-loop
+    μ-loop
+    loop-holds
+    normalised-requires
+    mul-out
+    array-write-out
+    add-i
+    loop-less
+    loop-again
+    returns)

@@ -1,0 +1,110 @@
+-- `finish` of solve.rs: what a fix shows of a fit, or why it is not published. Definitions only.
+use mathlib.Core.Bool.{Bool, true, false, not, cond, _&&_, _||_}
+use mathlib.Core.List.{List, [], _∷_}
+use Prim.Native.Nat.{ℕ, _^_}
+use lib.Dec.{ltb}
+use lib.IntN.{ℤ, pos, negsuc, _+ℤ_}
+use lib.ListN.{replicate}
+use lib.Ieee.{Float, lt, toSigned}
+use Rattle.binary64.specs.Steps.{_⊗_, _⊘_, decimal, nought}
+use Rattle.binary64.specs.Rounding.{halfAway}
+use Rattle.geo.specs.Geo.{C, fromEcef}
+use Rattle.dense.specs.Factor.{Factor, found, refused, cholesky}
+use Rattle.dense.specs.Inverse.{inverse}
+use Rattle.problem.specs.Problem.{position, moment}
+use Rattle.limits.specs.Local.{row, entry, published}
+use Rattle.damped.specs.declared.Fit.{Fit}
+use Rattle.record.specs.declared.content.Fix.{Fix}
+use Rattle.rounds.specs.declared.finish.Finished.{Finished}
+use Rattle.rounds.specs.declared.moment.Moment.{Moment}
+use Rattle.rounds.specs.declared.finish.Unpublished.{Unpublished}
+use Rattle.rounds.specs.declared.finish.Unpublished.the-variants.{Singular, Uncertain, OutOfRange}
+use Rattle.rounds.specs.Setting.{Outcome, fails, gives}
+
+-- whether an i64 holds it
+abbrev pub held : ℤ → Bool
+held (pos n) = ltb n (2 ^ 63)
+held (negsuc n) = ltb n (2 ^ 63)
+
+-- a time where an i64 holds it
+abbrev pub beyond : Moment
+beyond = record { held = false; ps = pos 0 }
+
+abbrev pub momentOf : ℤ → Moment
+momentOf ps = cond (held ps) (record { held = true; ps = ps }) beyond
+
+-- `transmit`: `reference_ps + (fit.params[3] / C * PS as f64).round() as i128`. `toSigned 127` is the cast to i128.
+unfoldable pub transmitPs : ℤ → Float → ℤ
+transmitPs reference t = reference +ℤ toSigned 127 (halfAway (t ⊘ C ⊗ decimal 1_000_000_000_000 0))
+
+-- `MAX_SIGMA_M * MAX_SIGMA_M`
+unfoldable pub maxVarianceM2 : Float
+maxVarianceM2 = decimal 1500 0 ⊗ decimal 1500 0
+
+-- `(0..3).any(|axis| covariance[axis][axis] > MAX_SIGMA_M * MAX_SIGMA_M)`
+unfoldable pub wide : List (List Float) → Bool
+unfolding maxVarianceM2
+wide c = lt maxVarianceM2 (entry c 0 0) || (lt maxVarianceM2 (entry c 1 1) || lt maxVarianceM2 (entry c 2 2))
+
+-- `check`: the covariance as a matrix
+abbrev pub check : List (List Float) → List Float
+check c = entry c 0 0 ∷ entry c 0 1 ∷ entry c 0 2 ∷ entry c 1 0 ∷ entry c 1 1 ∷ entry c 1 2 ∷ entry c 2 0 ∷ entry c 2 1 ∷ entry c 2 2 ∷ []
+
+-- `is_some` of a factor
+abbrev pub definite : Factor → Bool
+definite (found l) = true
+definite (refused l) = false
+
+-- the covariance passes both tests of `finish`
+unfoldable pub certain : List (List Float) → Bool
+unfolding wide
+certain c = not (wide c) && definite (cholesky (check c) 3 (replicate 9 nought))
+
+-- what stands in the fields of a fix where there is none
+abbrev pub nothing : Fix
+nothing =
+    let three = replicate 3 nought in
+    record {
+      mask = 0;
+      dof = 0;
+      ecef = three;
+      t = nought;
+      position = record { «lat_deg» = nought; «lon_deg» = nought; «height_m» = nought };
+      «transmit_ps» = pos 0;
+      r0 = three;
+      r1 = three;
+      r2 = three;
+      chi2 = nought;
+    }
+
+-- what a fix shows: the mask and the degrees of freedom of the used receptions, the fit, its covariance, and the transmit time
+abbrev pub fixOf : ℕ → ℕ → Fit → List (List Float) → ℤ → Fix
+fixOf mask dof fit c ps = record {
+  mask = mask;
+  dof = dof;
+  ecef = position (fit .params);
+  t = moment (fit .params);
+  position = fromEcef (position (fit .params));
+  «transmit_ps» = ps;
+  r0 = row c 0;
+  r1 = row c 1;
+  r2 = row c 2;
+  chi2 = fit .cost;
+}
+
+-- the tests of the covariance, then of the transmit time
+abbrev pub shown : ℕ → ℕ → Fit → List (List Float) → ℤ → Outcome Unpublished Fix
+shown mask dof fit c ps = cond (certain c) (cond (held ps) (gives (fixOf mask dof fit c ps)) (fails OutOfRange)) (fails Uncertain)
+
+abbrev pub inverted : ℕ → ℕ → ℤ → Fit → Factor → Outcome Unpublished Fix
+inverted mask dof reference fit (found l) = shown mask dof fit (published (inverse l 4 (replicate 16 nought))) (transmitPs reference (moment (fit .params)))
+inverted mask dof reference fit (refused l) = fails Singular
+
+-- `finish`
+unfoldable pub finish : ℕ → ℕ → ℤ → Fit → Outcome Unpublished Fix
+unfolding certain transmitPs
+finish mask dof reference fit = inverted mask dof reference fit (cholesky (fit .information) 4 (replicate 16 nought))
+
+-- as the code tells it
+abbrev pub told : Finished → Outcome Unpublished Fix
+told r = cond (r .published) (gives (r .fix)) (fails (r .why))

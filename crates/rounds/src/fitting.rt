@@ -1,0 +1,72 @@
+// The best fit of the included receptions.
+ghost use mathlib.Core.Path.{_≡_};
+ghost use Prim.Native.Nat.{_≤_};
+ghost use Rattle.sets.specs.Mask.{has};
+ghost use Rattle.best.specs.Best as best;
+ghost use Rattle.rounds.specs.Solve.{subset, optional, bestFit};
+use best::Best;
+use problem::Altitude;
+
+// k receptions by their indices, sites and times.
+pub struct Gathered {
+    pub k: usize,
+    pub index: [usize; 32],
+    pub sites: [f64; 96],
+    pub z: [f64; 32],
+}
+
+// The included receptions.
+pub fn subset(site: &[f64; 96], z: &[f64; 32], n: usize, included: u32) -> Gathered
+    requires { ⌜ n ≤ 32 ⌝ }
+    ensures { λ r. ⌜ r ≡ subset (now (site .entry)) (now (z .entry)) n (has included) ⌝ }
+{
+    let mut index = [0usize; 32];
+    let k = sets::members(included, n, &mut index);
+    let mut sites = [0.0; 96];
+    problem::gather_sites(site, &index, k, &mut sites);
+    let mut times = [0.0; 32];
+    problem::gather(z, &index, k, &mut times);
+    Gathered {
+        k,
+        index,
+        sites,
+        z: times,
+    }
+}
+
+// Their best fit, where `previous` leads the starts if a round before `had` found it.
+pub fn fit_included(
+    site: &[f64; 96],
+    z: &[f64; 32],
+    noise: &[f64; 32],
+    clock: &[f64; 1024],
+    n: usize,
+    altitude: Altitude,
+    included: u32,
+    had: bool,
+    previous: [f64; 4],
+) -> Best
+    requires { ⌜ n ≤ 32 ⌝ }
+    ensures { λ r. ⌜ best.told r ≡ bestFit (now (site .entry)) (now (z .entry)) (now (noise .entry)) (now (clock .entry)) n altitude (has included) (optional had previous) ⌝ }
+{
+    let chosen = subset(site, z, n, included);
+    let k = chosen.k;
+    let index = chosen.index;
+    let sites = chosen.sites;
+    let times = chosen.z;
+    let points = starts::starts(had, previous, &sites, &times, k, altitude);
+    let count = points.n;
+    let at = points.at;
+    best::best_fit(
+        clock,
+        n,
+        noise,
+        &index,
+        &sites,
+        &times,
+        k,
+        altitude,
+        &at,
+        count,
+    )
+}

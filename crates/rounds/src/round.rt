@@ -1,0 +1,74 @@
+// One round of the outlier rule.
+ghost use mathlib.Core.Path.{_≡_};
+ghost use mathlib.Core.Bool.{Bool};
+ghost use Prim.Native.Nat.{ℕ, _≤_, _<_, _^_};
+ghost use lib.IntN.{ℤ};
+ghost use Rattle.sets.specs.Mask.{has};
+ghost use Rattle.screen.specs.Screen as screen;
+ghost use Rattle.rounds.specs.Rounds as rounds;
+ghost use Rattle.rounds.specs.declared.outliers.Turn.the-variants.{Ends};
+ghost use Rattle.rounds.specs.Outliers.{stepOf};
+ghost use Rattle.rounds.specs.Solve.{optional, settingOf};
+use crate::Refusal;
+use crate::answer::of_unfit;
+use crate::fitting::fit_included;
+use crate::outliers::Turn;
+use crate::outliers::decided;
+use crate::outliers::residuals;
+use damped::Fit;
+use problem::Altitude;
+
+// What a round comes to, and its best fit: zeros where it has none.
+pub struct Step {
+    pub turn: Turn,
+    pub fit: Fit,
+}
+
+// A round that a refusal ends before there is a best fit.
+fn ended(why: Refusal) -> Step
+    ensures { λ r. ⌜ r .turn ≡ Ends why ⌝ }
+{
+    let params = [0.0; 4];
+    let information = [0.0; 16];
+    Step {
+        turn: Turn::Ends(why),
+        fit: Fit {
+            ok: false,
+            params,
+            cost: 0.0,
+            information,
+        },
+    }
+}
+
+// A round over the included receptions, after one that found `previous` if it `had` any.
+pub fn round(
+    site: &[f64; 96],
+    z: &[f64; 32],
+    noise: &[f64; 32],
+    clock: &[f64; 1024],
+    n: usize,
+    altitude: Altitude,
+    kept: u32,
+    included: u32,
+    had: bool,
+    previous: [f64; 4],
+) -> Step
+    requires { ⌜ (n ≤ 32) × (included < 2 ^ n) ⌝ }
+    ensures { λ r. ⌜ ((fails : ℕ → ℕ → Bool) (reference : ℤ) → has kept ≡ screen.kept n fails → stepOf (r .turn) (r .fit) ≡ rounds.round (settingOf (now (site .entry)) (now (z .entry)) (now (noise .entry)) (now (clock .entry)) n altitude fails reference) (has included) (optional had previous)) ⌝ }
+{
+    let count = sets::count(included);
+    if count < problem::minimum(altitude) {
+        return ended(Refusal::TooFew(count));
+    }
+    let best = fit_included(site, z, noise, clock, n, altitude, included, had, previous);
+    if best.found {
+        let fit = best.fit;
+        let params = fit.params;
+        let at = residuals(site, z, noise, clock, n, params);
+        let turn = decided(kept, included, &at, n);
+        return Step { turn, fit };
+    }
+    let why = best.why;
+    ended(of_unfit(why))
+}

@@ -1,0 +1,3 @@
+pub mod Covariance
+pub mod Whitened
+pub mod Normal

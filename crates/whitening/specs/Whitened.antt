@@ -1,0 +1,103 @@
+-- Residuals and slopes of chosen receptions at some parameters p, whitened, and the altitude's row after them: `residual` and `whitened` of solve.rs. Definitions only.
+use mathlib.Core.List.{List, [], _∷_}
+use Prim.Native.Nat.{ℕ, zero, suc, _+_}
+use lib.ListN.{getD, set, replicate}
+use lib.Ieee.{Float, neg}
+use Rattle.binary64.specs.Steps.{_⊖_, _⊘_, nought, one, decimal}
+use Rattle.dense.specs.Entries.{nth}
+use Rattle.dense.specs.Solve.{forward}
+use Rattle.linalg.specs.Vec3.{sub, norm}
+use Rattle.geo.specs.Geo.{fromEcef, enuBasis}
+use Rattle.problem.specs.Problem.{siteAt, position, moment}
+use Rattle.problem.specs.declared.Altitude.{Altitude}
+use Rattle.problem.specs.declared.Altitude.the-variants.{None, Barometric, Gnss}
+
+-- what a fit is made of: k receptions by their sites and z, the factor that whitens them, and the altitude
+pub record Chosen : Type 0 where
+  pub k : ℕ
+  pub sites : List Float
+  pub z : List Float
+  pub whitener : List Float
+  pub altitude : Altitude
+
+abbrev pub chosen : ℕ → List Float → List Float → List Float → Altitude → Chosen
+chosen k sites z whitener altitude = record { k = k; sites = sites; z = z; whitener = whitener; altitude = altitude }
+
+-- what `whitened` gives: how many rows, their residuals r, and their slopes a, b, c and d along the four parameters
+pub record Rows : Type 0 where
+  pub count : ℕ
+  pub r : List Float
+  pub a : List Float
+  pub b : List Float
+  pub c : List Float
+  pub d : List Float
+
+abbrev pub rows : ℕ → List Float → List Float → List Float → List Float → List Float → Rows
+rows count r a b c d = record { count = count; r = r; a = a; b = b; c = c; d = d }
+
+-- `residual`: z - T - |x - site|, from the left
+unfoldable pub residual : List Float → List Float → ℕ → List Float → Float
+residual sites z i p = nth z i ⊖ moment p ⊖ norm (sub (position p) (siteAt sites i))
+
+-- the slope of a residual along an axis: `-delta[axis] / range`
+abbrev pub slope : List Float → ℕ → Float
+slope delta axis = neg (nth delta axis) ⊘ norm delta
+
+-- reception i before it is whitened: the residual and its four slopes
+unfoldable pub rawRow : List Float → List Float → ℕ → List Float → List Float
+unfolding residual
+rawRow sites z i p =
+    let delta = sub (position p) (siteAt sites i) in
+    residual sites z i p ∷ slope delta 0 ∷ slope delta 1 ∷ slope delta 2 ∷ neg one ∷ []
+
+-- entry j of the row of reception i
+abbrev pub raw : List Float → List Float → List Float → ℕ → ℕ → Float
+raw sites z p j i = nth (rawRow sites z i p) j
+
+-- the array out with f 0, .., f (k - 1) in its first k places
+unfoldable pub fillTo : (ℕ → Float) → List Float → ℕ → List Float
+fillTo f out zero = out
+fillTo f out (suc k) = set (fillTo f out k) k (f k)
+
+-- room for 32 receptions and the altitude
+abbrev pub blank : List Float
+blank = replicate 33 nought
+
+-- entry j of all k rows, whitened: `whitener.forward`
+abbrev pub whitenedColumn : Chosen → List Float → ℕ → List Float
+whitenedColumn P p j = forward (P .whitener) (P .k) (fillTo (raw (P .sites) (P .z) p j) blank (P .k))
+
+-- the rows of the receptions
+abbrev pub received : Chosen → List Float → Rows
+received P p = let column = whitenedColumn P p in rows (P .k) (column 0) (column 1) (column 2) (column 3) (column 4)
+
+-- `BARO_SIGMA_M` and `GNSS_SIGMA_M`: "one standard deviation", metres, of an altitude of either kind
+unfoldable pub baroSigmaM : Float
+baroSigmaM = decimal 100 0
+
+unfoldable pub gnssSigmaM : Float
+gnssSigmaM = decimal 15 0
+
+-- the altitude's row at x: `(position.height_m - metres) / sigma`, and its slopes, `up` over sigma and 0
+unfoldable pub heightRow : Float → Float → List Float → List Float
+heightRow metres sigma x =
+    let g = fromEcef x in
+    let up = getD (enuBasis (g .«lat_deg») (g .«lon_deg»)) 2 [] in
+    ((g .«height_m» ⊖ metres) ⊘ sigma) ∷ (nth up 0 ⊘ sigma) ∷ (nth up 1 ⊘ sigma) ∷ (nth up 2 ⊘ sigma) ∷ nought ∷ []
+
+-- one row more, after the others
+abbrev pub push : Rows → List Float → Rows
+push w row =
+    let put : List Float → ℕ → List Float = λ y j. set y (w .count) (nth row j) in
+    rows (w .count + 1) (put (w .r) 0) (put (w .a) 1) (put (w .b) 2) (put (w .c) 3) (put (w .d) 4)
+
+-- "the altitude row last", where there is an altitude
+abbrev pub pushAltitude : Altitude → List Float → Rows → Rows
+pushAltitude None x w = w
+pushAltitude (Barometric metres) x w = push w (heightRow metres baroSigmaM x)
+pushAltitude (Gnss metres) x w = push w (heightRow metres gnssSigmaM x)
+
+-- `whitened`
+unfoldable pub whitened : Chosen → List Float → Rows
+unfolding rawRow fillTo heightRow
+whitened P p = pushAltitude (P .altitude) (position p) (received P p)

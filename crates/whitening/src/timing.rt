@@ -1,0 +1,93 @@
+// The timing covariance of the k chosen receptions `index` of n, square metres: each reception's noise
+// on the diagonal plus the clock covariance.
+ghost use mathlib.Core.Path.{_≡_};
+ghost use Prim.Native.Nat.{ℕ, _-_, _<_, _≤_};
+ghost use Rattle.dense.specs.Factor.{verdict};
+ghost use Rattle.problem.specs.Gathered.{pick};
+ghost use Rattle.whitening.specs.Covariance.{shared, covarianceRowTo, covariance, sigma, whitener};
+
+// The covariance of the a-th and the b-th chosen.
+fn shared(
+    clock: &[f64; 1024],
+    n: usize,
+    noise: &[f64; 32],
+    index: &[usize; 32],
+    a: usize,
+    b: usize,
+) -> f64
+    requires { ⌜ (n ≤ 32) × (a < 32) × (b < 32) × (pick (now index) a < n) × (pick (now index) b < n) ⌝ }
+    ensures { λ r. ⌜ r ≡ shared (now (clock .entry)) n (now (noise .entry)) (now (index .entry)) a b ⌝ }
+{
+    let i = index[a];
+    let value = dense::at(clock, n, i, index[b]);
+    if a == b {
+        return value + noise[i];
+    }
+    value
+}
+
+// Row a and column a, from the diagonal on.
+fn covariance_row(
+    clock: &[f64; 1024],
+    n: usize,
+    noise: &[f64; 32],
+    index: &[usize; 32],
+    k: usize,
+    a: usize,
+    sigma: &mut [f64; 1024],
+)
+    requires { ⌜ (n ≤ 32) × (k ≤ 32) × (a < k) ⌝ }
+    requires { ⌜ ((i : ℕ) → i < k → pick (now index) i < n) ⌝ }
+    ensures { λ _. ⌜ now (sigma .exit) ≡ covarianceRowTo (now (clock .entry)) n (now (noise .entry)) (now (index .entry)) k a (now (sigma .entry)) (k - a) ⌝ }
+{
+    for b in a..k {
+        let value = shared(clock, n, noise, index, a, b);
+        sigma[a * k + b] = value;
+        sigma[b * k + a] = value;
+    }
+}
+
+// The covariance, into the first k rows of k entries of `sigma`.
+pub fn covariance(
+    clock: &[f64; 1024],
+    n: usize,
+    noise: &[f64; 32],
+    index: &[usize; 32],
+    k: usize,
+    sigma: &mut [f64; 1024],
+)
+    requires { ⌜ (n ≤ 32) × (k ≤ 32) ⌝ }
+    requires { ⌜ ((i : ℕ) → i < k → pick (now index) i < n) ⌝ }
+    ensures { λ _. ⌜ now (sigma .exit) ≡ covariance (now (clock .entry)) n (now (noise .entry)) (now (index .entry)) k (now (sigma .entry)) ⌝ }
+{
+    for a in 0..k {
+        covariance_row(clock, n, noise, index, k, a, &mut *sigma);
+    }
+}
+
+// One reception's standard deviation, metres: the root of its diagonal entry.
+pub fn sigma(clock: &[f64; 1024], n: usize, noise: &[f64; 32], i: usize) -> f64
+    requires { ⌜ (n ≤ 32) × (i < n) ⌝ }
+    ensures { λ r. ⌜ r ≡ sigma (now (clock .entry)) n (now (noise .entry)) i ⌝ }
+{
+    let shared = dense::at(clock, n, i, i);
+    binary64::sqrt(shared + noise[i])
+}
+
+// The Cholesky factor of the covariance, into l; false where a pivot is refused.
+pub fn whitener(
+    clock: &[f64; 1024],
+    n: usize,
+    noise: &[f64; 32],
+    index: &[usize; 32],
+    k: usize,
+    l: &mut [f64; 1024],
+) -> bool
+    requires { ⌜ (n ≤ 32) × (k ≤ 32) ⌝ }
+    requires { ⌜ ((i : ℕ) → i < k → pick (now index) i < n) ⌝ }
+    ensures { λ r. ⌜ verdict r (now (l .exit)) ≡ whitener (now (clock .entry)) n (now (noise .entry)) (now (index .entry)) k (now (l .entry)) ⌝ }
+{
+    let mut sigma = [0.0; 1024];
+    covariance(clock, n, noise, index, k, &mut sigma);
+    dense::cholesky(&sigma, k, &mut *l)
+}

@@ -1,0 +1,42 @@
+-- An i64 and its bits in two's complement. Assumes nothing.
+use Prim.Native.Nat.{ℕ, zero, suc, _-_, _<_, _≤_, _^_}
+use mathlib.Core.Path.{_≡_, refl, ap}
+use mathlib.Core.Bool.{true, false}
+use native.Mathlib.Omega.{arith}
+use lib.Dec.{T}
+use borrow.Author.Tests.{ltb-true, le-ltb}
+use lib.IntN.{ℤ, pos, negsuc, _-ℤ_, natAbs}
+use lib.Signed.{ltZ, nonNeg}
+use mir.Syntax.{w64}
+use mir.Val.{toZ, ofZ, SFits}
+use mir.ValLaws.{toZ-pos}
+
+-- -1 - y
+less-one : (y : ℕ) → negsuc 0 -ℤ pos y ≡ negsuc y
+less-one zero = refl
+less-one (suc y) = ap negsuc (omega arith)
+
+pub negative-fits : (y : ℕ) → y < 2 ^ 63 → SFits w64 (negsuc 0 -ℤ toZ w64 y)
+negative-fits y h = rw (toZ-pos w64 y h, less-one y) (record { sfits = h })
+
+pub negative : (x : ℕ) → 2 ^ 63 ≤ x → x < 2 ^ 64 → toZ w64 (ofZ w64 (negsuc 0 -ℤ toZ w64 (18446744073709551615 - x))) ≡ toZ w64 x
+negative x h l =
+    let y : ℕ = 18446744073709551615 - x in
+    let hy : y < 2 ^ 63 = omega arith in
+    let e : 2 ^ 64 - suc y ≡ x = omega arith in
+    rw (toZ-pos w64 y hy, less-one y) (ap (toZ w64) e)
+
+-- -1 - (-1 - m)
+over : (m : ℕ) → negsuc 0 -ℤ negsuc m ≡ pos m
+over m = rw (le-ltb (suc m) 1 (omega arith)) (ap pos (let e : suc m - 1 ≡ m = omega arith in e))
+
+pub below : (x : ℤ) → ltZ x (pos 0) ≡ true → SFits w64 x → (m : ℕ) × (negsuc 0 -ℤ x ≡ pos m) × (m < 2 ^ 63) × (18446744073709551615 - m ≡ ofZ w64 x)
+below (pos n) e f = let z : n < 0 = ltb-true n 0 e in absurd (omega arith)
+below (negsuc m) e f = let h : m < 2 ^ 63 = f .sfits in (m, over m, h, omega arith)
+
+pub above : (x : ℤ) → ltZ x (pos 0) ≡ false → SFits w64 x → T (nonNeg x) × (natAbs x < 2 ^ 63) × (natAbs x ≡ ofZ w64 x)
+above (pos n) e f = let h : n < 2 ^ 63 = f .sfits in (tt, h, refl)
+above (negsuc m) e f = let z : _≡_ {A = ℕ} 0 1 = cc in absurd (omega arith)
+
+pub pos-fits : (n : ℕ) → n < 2 ^ 63 → SFits w64 (pos n)
+pos-fits n h = record { sfits = h }

@@ -1,0 +1,44 @@
+-- `words::i64_at` meets its contract: from the sign on, the number is -1 less what the word lacks of its greatest value (`negative`). Assumes nothing.
+use borrow.Author.Needs.{needs}
+use mathlib.Core.Path.{_∙_}
+use Prim.Native.Nat.{_-_}
+use native.Mathlib.Omega.{arith}
+use Rattle.words.specs.Words.{i64At}
+use Rattle.words.proofs.Signs.{negative-fits, negative}
+use Rattle.words.proofs.i64_at.Statement.{statement}
+use Rattle.words.proofs.i64_at.Tie as tie
+
+u64-at-requires : tie.Need-u64-at-requires
+u64-at-requires c κs = search needs
+
+cast-result : tie.Need-cast-result
+cast-result c = search needs
+
+returns : tie.Need-returns
+unfolding i64At
+returns c = rw (c .before .u64-at .ensures)
+
+sub-below : tie.Need-sub-below
+sub-below c = search needs
+
+cast-below : tie.Need-cast-below
+cast-below c = search needs
+
+sub-result : tie.Need-sub-result
+sub-result c = negative-fits (18446744073709551615 - c .before .u64-at .result) (omega arith)
+
+returns-2 : tie.Need-returns-2
+unfolding i64At
+returns-2 c = negative (c .before .u64-at .result) (omega arith) (omega arith) ∙ rw (c .before .u64-at .ensures)
+
+pub i64-at-spec : {M : Type 1} → statement M
+i64-at-spec =
+    tie.close
+    (tie.spec
+    u64-at-requires
+    cast-result
+    returns
+    sub-below
+    cast-below
+    sub-result
+    returns-2)

@@ -1,0 +1,41 @@
+-- `words::put_u32` meets its contract: its halves are the parts of the word (`write-parts`). Assumes nothing.
+use borrow.Author.Needs.{needs}
+use mathlib.Core.Path.{sym, _∙_}
+use Rattle.words.specs.Words.{putU16, putU32}
+use Rattle.words.proofs.Halves.{write-parts}
+use Rattle.words.proofs.put_u32.Statement.{statement}
+use Rattle.words.proofs.put_u32.Tie as tie
+
+cast-put-u16 : tie.Need-cast-put-u16
+cast-put-u16 c = search needs
+
+put-u16-requires : tie.Need-put-u16-requires
+put-u16-requires c κs = search needs
+
+add-put-u16 : tie.Need-add-put-u16
+add-put-u16 c = search needs
+
+cast-put-u16-2 : tie.Need-cast-put-u16-2
+cast-put-u16-2 c = search needs
+
+put-u16-requires-2 : tie.Need-put-u16-requires-2
+put-u16-requires-2 c κs = search needs
+
+same-length : tie.Need-same-length
+same-length c = search needs
+
+returns : tie.Need-returns
+unfolding putU32 putU16
+returns c = c .before .before .put-u162 .ensures ∙ rw (c .before .before .before .before .before .before .put-u16 .ensures) (sym (write-parts 2 2 (c .before .before .before .before .before .before .before .before .before .args .s .now) (c .before .before .before .before .before .before .before .before .before .args .k) (c .before .before .before .before .before .before .before .before .before .args .x)))
+
+pub put-u32-spec : {M : Type 1} → statement M
+put-u32-spec =
+    tie.close
+    (tie.spec
+    cast-put-u16
+    put-u16-requires
+    add-put-u16
+    cast-put-u16-2
+    put-u16-requires-2
+    same-length
+    returns)

@@ -1,0 +1,59 @@
+//! examples OUT: the example folders of the repository, each with its files and the original's record. Six stations about Lake Constance hear an aircraft that reports its
+//! barometric altitude; in the second folder one station is 2 km late; in the third only three stations hear it, and two places fit alike.
+
+use oracle::geo::Geodetic;
+use oracle::random::Random;
+use oracle::record;
+use oracle::scene::Scene;
+use oracle::sky;
+
+/// Latitude, longitude and height of each station.
+const STATIONS: [[f64; 3]; 6] = [
+    [47.66, 9.18, 410.0],
+    [47.50, 9.75, 440.0],
+    [47.42, 9.37, 690.0],
+    [47.81, 9.64, 460.0],
+    [47.70, 8.63, 420.0],
+    [47.99, 9.11, 640.0],
+];
+
+fn place([lat_deg, lon_deg, height_m]: [f64; 3]) -> Geodetic {
+    Geodetic { lat_deg, lon_deg, height_m }
+}
+
+fn scene(stations: &[[f64; 3]], aircraft: [f64; 3], late: &[f64]) -> Scene {
+    let mut random = Random::new(1);
+    let sites: Vec<[i64; 3]> = stations.iter().map(|station| oracle::geo::to_mm(oracle::geo::to_ecef(place(*station)))).collect();
+    let n = sites.len();
+    let noise = vec![400.0; n];
+    let error: Vec<f64> = (0..n).map(|i| 15.0 * random.normal() + late[i]).collect();
+    Scene {
+        receptions: sky::heard(&mut random, oracle::geo::to_ecef(place(aircraft)), &sites, &noise, &error),
+        clock: Some((0..n * n).map(|k| if k / n == k % n { 100.0 } else { 25.0 }).collect()),
+        altitude: Some((1, 11_280.0)),
+        reference: Some(1_700_000_000_000_000),
+    }
+}
+
+fn main() {
+    let out = std::env::args().nth(1).expect("examples OUT");
+    let aircraft = [47.58, 9.32, 11_310.0];
+    let folders = [
+        ("fix", 0, scene(&STATIONS, aircraft, &[0.0; 6])),
+        ("outlier", 0, scene(&STATIONS, aircraft, &[0.0, 0.0, 0.0, 2_000.0, 0.0, 0.0])),
+        ("ambiguous", 8, scene(&STATIONS[..3], [46.90, 9.00, 11_310.0], &[0.0; 3])),
+    ];
+    for (name, wanted, scene) in folders {
+        let files = scene.files();
+        let (answer, record) = record::record(&files);
+        assert_eq!(answer, wanted, "{name}");
+        let folder = format!("{out}/{name}");
+        std::fs::create_dir_all(&folder).expect("a folder");
+        let all = [("receptions", files.receptions), ("clock", files.clock), ("altitude", files.altitude), ("reference", files.reference), ("record", Some(record.to_vec()))];
+        for (file, bytes) in all {
+            std::fs::write(format!("{folder}/{file}.bin"), bytes.expect("it is there")).expect("a file");
+        }
+        let mask = u32::from_le_bytes([record[12], record[13], record[14], record[15]]);
+        println!("{folder}: answer {answer}, used {mask:08x}");
+    }
+}

@@ -1,0 +1,130 @@
+//! recording OUT LIST: problems with the original's answers, for replaying (kept.rs has the form). In this order: the whole outputs that document 01 states; the edges of edges.rs;
+//! for each kind and answer the first few; rare courses of the rounds, a few of each; and the inputs whose numbers stand in LIST (seed and number of
+//! compare/solve), which tell mutants from the original.
+
+use oracle::damage::{self, KINDS};
+use oracle::edges::{EDGES, SEED};
+use oracle::input;
+use oracle::kept::{self, Kept};
+use oracle::random::Random;
+use oracle::record;
+use oracle::scene::{Files, Scene};
+use oracle::trace::{Change, Trace, trace};
+
+const MOST_BYTES: usize = 3_000_000;
+
+#[derive(Default)]
+struct Recording {
+    bytes: Vec<u8>,
+    problems: usize,
+    answers: [usize; 16],
+}
+
+impl Recording {
+    fn keep(&mut self, files: &Files) {
+        let (answer, record) = record::record(files);
+        if let Some(bytes) = kept::bytes(&Kept { files: files.clone(), record }) {
+            self.bytes.extend(bytes);
+            self.problems += 1;
+            self.answers[answer as usize] += 1;
+        }
+    }
+}
+
+fn receptions(files: &Files) -> usize {
+    files.receptions.as_ref().map_or(0, |bytes| bytes.len() / 64)
+}
+
+fn whole_outputs(recording: &mut Recording) {
+    recording.keep(&Files::default());
+    recording.keep(&Files { clock: Some(Vec::new()), ..Files::default() });
+}
+
+fn edges(recording: &mut Recording) {
+    for (name, find, numbers) in EDGES {
+        for k in numbers {
+            let scenes = find(&mut Random::of_problem(SEED, *k)).unwrap_or_else(|| panic!("{name}: number {k} has none"));
+            scenes.iter().for_each(|scene| recording.keep(&scene.files()));
+        }
+        println!("{name}: {}", numbers.len());
+    }
+}
+
+/// The first of each kind and answer with few receptions (or too many), and some with more.
+fn kinds(recording: &mut Recording, seed: u64, few: usize, many: usize) {
+    let mut found = [[[0; 2]; 16]; KINDS];
+    for k in 0..60_000u64 {
+        let kind = k as usize % KINDS;
+        let files = damage::files(&mut Random::of_problem(seed, k), kind);
+        let size = usize::from((9..33).contains(&receptions(&files)));
+        let count = &mut found[kind][record::record(&files).0 as usize][size];
+        if *count < [few, many][size] {
+            *count += 1;
+            recording.keep(&files);
+        }
+    }
+}
+
+/// A name, and whether a problem's rounds took that course.
+type Course = (&'static str, fn(&Scene, &Trace, u32) -> bool);
+
+const COURSES: [Course; 9] = [
+    ("no fixed point", |_, _, answer| answer == 4),
+    ("a fix after a return", |_, told, answer| answer == 0 && told.returns() > 0),
+    ("a fix after two returns", |_, told, answer| answer == 0 && told.returns() > 1),
+    ("a refusal after a return", |_, told, answer| answer != 0 && answer != 4 && told.returns() > 0),
+    ("four of three by a return", |_, told, _| {
+        told.rounds.iter().any(|round| round.subset.len() == 3 && matches!(round.change, Some(Change::Return(_))))
+    }),
+    ("too few after a removal", |_, told, answer| answer == 1 && told.changes().count() > 0),
+    ("ambiguous after a removal", |_, told, answer| answer == 8 && told.changes().count() > 0),
+    ("no plausible fit after a removal", |_, told, answer| answer == 3 && told.rounds.last().is_some_and(|round| round.fit.is_err()) && told.rounds.len() > 1),
+    ("a fix after five removals", |_, told, answer| answer == 0 && told.changes().count() > 4),
+];
+
+/// Kinds in which the rounds make changes.
+const CHANGING: [usize; 5] = [2, 3, 10, 11, 16];
+
+fn courses(recording: &mut Recording, seed: u64, quota: usize) {
+    let mut found = [0; COURSES.len()];
+    for k in 0..60_000u64 {
+        let files = damage::files(&mut Random::of_problem(seed, k), CHANGING[k as usize % CHANGING.len()]);
+        if receptions(&files) > 12 || found.iter().all(|count| *count >= quota) {
+            continue;
+        }
+        let Ok(scene) = input::read(&files) else { continue };
+        let answer = record::record(&files).0;
+        let told = trace(&scene.problem());
+        let fits: Vec<usize> = (0..COURSES.len()).filter(|c| found[*c] < quota && COURSES[*c].1(&scene, &told, answer)).collect();
+        if !fits.is_empty() {
+            fits.iter().for_each(|course| found[*course] += 1);
+            recording.keep(&files);
+        }
+    }
+    COURSES.iter().zip(found).for_each(|((name, _), count)| println!("{name}: {count}"));
+}
+
+/// Lines of a seed and a number; the rest of a line is a remark.
+fn listed(recording: &mut Recording, list: &str) {
+    for line in list.lines().filter(|line| !line.starts_with('#')) {
+        let numbers: Vec<u64> = line.split_whitespace().take(2).map(|word| word.parse().expect("a seed and a number")).collect();
+        recording.keep(&damage::files(&mut Random::of_problem(numbers[0], numbers[1]), numbers[1] as usize % KINDS));
+    }
+}
+
+fn main() {
+    let words: Vec<String> = std::env::args().skip(1).collect();
+    let [out, list] = words.as_slice() else {
+        panic!("recording OUT LIST");
+    };
+    let mut recording = Recording::default();
+    whole_outputs(&mut recording);
+    edges(&mut recording);
+    kinds(&mut recording, 1, 9, 1);
+    courses(&mut recording, 2, 25);
+    listed(&mut recording, &std::fs::read_to_string(list).expect("the list is readable"));
+    println!("answers: {:?}", recording.answers);
+    println!("{} problems, {} bytes", recording.problems, recording.bytes.len());
+    assert!(recording.bytes.len() <= MOST_BYTES, "over {MOST_BYTES} bytes");
+    std::fs::write(out, recording.bytes).expect("the recording is writable");
+}

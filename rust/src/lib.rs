@@ -1,0 +1,119 @@
+//! The proved position solve of a multilateration network, from Rust.
+//!
+//! ```no_run
+//! use jifrosk::{Altitude, Problem, Reception, solve};
+//!
+//! let receptions: Vec<Reception> = Vec::new(); // by ascending identity
+//! let clock_m2 = vec![0.0; receptions.len() * receptions.len()];
+//! let problem = Problem { receptions: &receptions, clock_m2: Some(&clock_m2), altitude: Some(Altitude::Barometric(9_144.0)), reference_ps: 0 };
+//! match solve(&problem) {
+//!     Ok(fix) => println!("{:.5} {:.5} {:.0} m", fix.latitude_deg, fix.longitude_deg, fix.height_m),
+//!     Err(refusal) => println!("{refusal}"),
+//! }
+//! ```
+//!
+//! The solve keeps no state and allocates nothing: any number of calls may run side by side. What it answers is proved, for every input; this crate only carries
+//! numbers to bytes and back.
+
+mod fix;
+mod refusal;
+
+pub use fix::Fix;
+pub use refusal::{Field, Refusal};
+
+/// The length of a record.
+pub const RECORD: usize = 176;
+
+/// One reception of the transmission.
+#[derive(Clone, Copy, Debug, PartialEq)]
+pub struct Reception {
+    /// Above that of the reception before.
+    pub identity: u64,
+    /// When it arrived, 0 to 10^13.
+    pub time_ps: i64,
+    /// ECEF, each within ±10^10.
+    pub site_mm: [i64; 3],
+    /// Arrival in metres of light after the reference, 0 to 3·10^9.
+    pub z_m: f64,
+    /// Variance of its own timing, 10^-6 to 10^12.
+    pub noise_m2: f64,
+}
+
+/// A reported altitude, metres above the ellipsoid, within ±100,000.
+#[derive(Clone, Copy, Debug, PartialEq)]
+pub enum Altitude {
+    Barometric(f64),
+    Gnss(f64),
+}
+
+/// What is solved: at most 32 receptions.
+#[derive(Clone, Copy, Debug)]
+pub struct Problem<'a> {
+    pub receptions: &'a [Reception],
+    /// The covariance of the receptions' clocks, m², n × n row by row: 0 to 10^12 on the diagonal, within ±10^12 right of it; entries left of it are never read.
+    pub clock_m2: Option<&'a [f64]>,
+    pub altitude: Option<Altitude>,
+    /// What z and the transmit time count from.
+    pub reference_ps: i64,
+}
+
+extern "C" {
+    #[rustfmt::skip]
+    fn mlat_solve(
+        receptions: *const u8, receptions_len: usize, clock: *const u8, clock_len: usize, altitude: *const u8, altitude_len: usize,
+        reference: *const u8, reference_len: usize, present: u32, out: *mut u8, out_len: usize,
+    ) -> u32;
+}
+
+/// The solve on the bytes of the four files, absent ones none; an absent receptions file is an empty one. Returns the answer number and writes the record to the
+/// first 176 bytes of `out`, where it is that long; else the answer is 14 and nothing is written.
+pub fn solve_bytes(receptions: &[u8], clock: Option<&[u8]>, altitude: Option<&[u8]>, reference: Option<&[u8]>, out: &mut [u8]) -> u32 {
+    let present = u32::from(clock.is_some()) | u32::from(altitude.is_some()) << 1 | u32::from(reference.is_some()) << 2;
+    let [clock, altitude, reference] = [clock, altitude, reference].map(|file| file.unwrap_or(&[]));
+    // SAFETY: each pointer is lent with its length, the output is apart from the inputs, and the call keeps none of them.
+    unsafe {
+        mlat_solve(
+            receptions.as_ptr(), receptions.len(), clock.as_ptr(), clock.len(), altitude.as_ptr(), altitude.len(),
+            reference.as_ptr(), reference.len(), present, out.as_mut_ptr(), out.len(),
+        )
+    }
+}
+
+/// Where the aircraft was, or why that is not said.
+pub fn solve(problem: &Problem) -> Result<Fix, Refusal> {
+    let receptions: Vec<u8> = problem.receptions.iter().flat_map(reception_bytes).collect();
+    let clock: Option<Vec<u8>> = problem.clock_m2.map(|entries| entries.iter().flat_map(|entry| entry.to_le_bytes()).collect());
+    let altitude = problem.altitude.map(altitude_bytes);
+    let mut record = [0; RECORD];
+    solve_bytes(&receptions, clock.as_deref(), altitude.as_ref().map(<[u8; 16]>::as_slice), Some(&problem.reference_ps.to_le_bytes()), &mut record);
+    read(&record)
+}
+
+/// A record, taken apart.
+pub fn read(record: &[u8; RECORD]) -> Result<Fix, Refusal> {
+    let word = |at: usize| u32::from_le_bytes([record[at], record[at + 1], record[at + 2], record[at + 3]]);
+    match word(0) {
+        0 => Ok(fix::read(record)),
+        number => Err(refusal::read(number, word(4))),
+    }
+}
+
+fn reception_bytes(r: &Reception) -> [u8; 64] {
+    let mut bytes = [0; 64];
+    let words = [r.identity, r.time_ps as u64, r.site_mm[0] as u64, r.site_mm[1] as u64, r.site_mm[2] as u64, r.z_m.to_bits(), r.noise_m2.to_bits()];
+    for (part, word) in bytes.chunks_mut(8).zip(words) {
+        part.copy_from_slice(&word.to_le_bytes());
+    }
+    bytes
+}
+
+fn altitude_bytes(altitude: Altitude) -> [u8; 16] {
+    let (kind, metres) = match altitude {
+        Altitude::Barometric(metres) => (1, metres),
+        Altitude::Gnss(metres) => (2, metres),
+    };
+    let mut bytes = [0; 16];
+    bytes[0] = kind;
+    bytes[8..].copy_from_slice(&metres.to_le_bytes());
+    bytes
+}

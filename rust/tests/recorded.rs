@@ -1,0 +1,99 @@
+//! The recorded answers of the original: through the bytes, and through `Problem` where there is one.
+
+use jifrosk::{Altitude, Problem, RECORD, Reception, read, solve, solve_bytes};
+
+const KEPT: &str = concat!(env!("CARGO_MANIFEST_DIR"), "/../crates/replay/stdin");
+
+/// oracle/kept.rs has the form.
+struct Kept<'a> {
+    files: [&'a [u8]; 4],
+    there: [bool; 4],
+    record: [u8; RECORD],
+}
+
+fn kept(mut bytes: &[u8]) -> Vec<Kept<'_>> {
+    let mut all = Vec::new();
+    while !bytes.is_empty() {
+        let (head, mut rest) = bytes.split_at(8);
+        let length = |k: usize| usize::from(u16::from_le_bytes([head[k], head[k + 1]]));
+        let files = [length(0), length(2), usize::from(head[4]), usize::from(head[5])].map(|length| {
+            let (file, more) = rest.split_at(length);
+            rest = more;
+            file
+        });
+        let there = [3, 0, 1, 2].map(|bit: u8| head[6] >> bit & 1 == 1);
+        let (record, more) = rest.split_at(RECORD);
+        all.push(Kept { files, there, record: record.try_into().expect("176 bytes") });
+        bytes = more;
+    }
+    all
+}
+
+fn recording() -> Vec<u8> {
+    std::fs::read(KEPT).expect("the recording of crates/replay")
+}
+
+#[test]
+fn bytes_give_the_recorded_record() {
+    let bytes = recording();
+    for (k, problem) in kept(&bytes).iter().enumerate() {
+        let file = |k: usize| problem.there[k].then_some(problem.files[k]);
+        let mut out = [0xA5; RECORD + 7];
+        let answer = solve_bytes(problem.files[0], file(1), file(2), file(3), &mut out);
+        assert_eq!(out[..RECORD], problem.record, "problem {k}");
+        assert_eq!(out[RECORD..], [0xA5; 7], "problem {k}");
+        assert_eq!(answer.to_le_bytes(), problem.record[..4], "problem {k}");
+    }
+}
+
+#[test]
+fn problems_give_the_recorded_answer() {
+    let bytes = recording();
+    let long = |bytes: &[u8], at: usize| u64::from_le_bytes(bytes[at..at + 8].try_into().expect("eight bytes"));
+    for (k, problem) in kept(&bytes).iter().enumerate() {
+        let [receptions, clock, altitude, reference] = problem.files;
+        let numbers_only = receptions.chunks(64).all(|r| r.len() == 64 && r[56..] == [0; 8]) && clock.len() % 8 == 0;
+        let whole_altitude = !problem.there[2] || altitude.len() == 16 && altitude[1..8] == [0; 7] && (1..=2).contains(&altitude[0]);
+        if !numbers_only || !whole_altitude || (problem.there[3] && reference.len() != 8) {
+            continue;
+        }
+        let receptions: Vec<Reception> = receptions
+            .chunks(64)
+            .map(|r| Reception {
+                identity: long(r, 0),
+                time_ps: long(r, 8) as i64,
+                site_mm: [16, 24, 32].map(|at| long(r, at) as i64),
+                z_m: f64::from_bits(long(r, 40)),
+                noise_m2: f64::from_bits(long(r, 48)),
+            })
+            .collect();
+        let entries: Vec<f64> = clock.chunks(8).map(|entry| f64::from_bits(long(entry, 0))).collect();
+        let metres = || f64::from_bits(long(altitude, 8));
+        let found = solve(&Problem {
+            receptions: &receptions,
+            clock_m2: problem.there[1].then_some(&entries),
+            altitude: problem.there[2].then(|| if altitude[0] == 1 { Altitude::Barometric(metres()) } else { Altitude::Gnss(metres()) }),
+            reference_ps: if problem.there[3] { long(reference, 0) as i64 } else { 0 },
+        });
+        assert_eq!(found, read(&problem.record), "problem {k}");
+    }
+}
+
+#[test]
+fn examples_give_their_records() {
+    for name in ["fix", "outlier", "ambiguous"] {
+        let file = |file: &str| std::fs::read(format!("{}/../examples/{name}/{file}.bin", env!("CARGO_MANIFEST_DIR"))).expect("an example file");
+        let mut out = [0; RECORD];
+        solve_bytes(&file("receptions"), Some(&file("clock")), Some(&file("altitude")), Some(&file("reference")), &mut out);
+        assert_eq!(out.as_slice(), file("record"), "{name}");
+    }
+}
+
+#[test]
+fn short_outputs_are_left_alone() {
+    for length in 0..RECORD {
+        let mut out = vec![0x5A; length];
+        assert_eq!(solve_bytes(&[], None, None, None, &mut out), 14);
+        assert!(out.iter().all(|byte| *byte == 0x5A));
+    }
+}
