@@ -1,6 +1,7 @@
-//! Runs whitening and damped and the Rust that they are ported from on the same problems, and compares every entry that either writes, by bits. All not-a-numbers
-//! count as one value. What a function must leave alone holds a mark, which is looked at too.
+//! Runs whitening, damped and best and the Rust that they are ported from on the same problems, and compares every entry that either writes, by bits. All
+//! not-a-numbers count as one value. What a function must leave alone holds a mark, which is looked at too.
 
+mod best;
 mod port;
 mod timing;
 
@@ -20,6 +21,12 @@ struct Tally {
     refused: [u64; SCENES.len()],
     fits: [u64; SCENES.len()],
     converged: [u64; SCENES.len()],
+    /// Of best_fit, by document 01's number; 0 is a fit.
+    answers: [u64; 10],
+    /// How many lists of starts began with what a round before had found.
+    last_rounds: u64,
+    /// How many places were not plausible, and how many were.
+    plausible: [u64; 2],
     calls: u64,
     entries: u64,
     differences: u64,
@@ -138,6 +145,7 @@ impl Tally {
         self.problems[kind] += 1;
         let factor = problem.whitener(&subset);
         self.timing(at, &problem, &arrays, &chosen, &subset, factor.as_ref());
+        self.best(at, &mut random.clone(), &problem, &arrays, &chosen, &subset);
         let Some(factor) = factor else {
             self.refused[kind] += 1;
             return;
@@ -166,6 +174,12 @@ impl Tally {
         }
         let sum = |of: &[u64]| of.iter().sum::<u64>();
         println!("{} problems, {} fits, {} of them converged", sum(&self.problems), sum(&self.fits), sum(&self.converged));
+        let [found, _, no_convergence, out_of_range, _, _, singular, _, ambiguous, _] = self.answers;
+        println!(
+            "best_fit: {found} fits; refused {no_convergence} as 2, {out_of_range} as 3, {singular} as 6, {ambiguous} as 8; {} after a round that found a fit",
+            self.last_rounds
+        );
+        println!("plausible: {} places are, {} are not", self.plausible[1], self.plausible[0]);
         println!("{} calls, {} entries, {} differences", self.calls, self.entries, self.differences);
     }
 }
