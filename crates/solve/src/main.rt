@@ -1,4 +1,170 @@
-// Solves the four files of the current folder, and writes the record of 176 bytes to standard output.
+// Reads receptions.bin, clock.bin, altitude.bin and reference.bin from the current folder, and writes the
+// record of their solve to standard output. A file that is absent is an absent input. One that is there
+// and cannot be read is said on standard error, and nothing is written.
+//
+// A file that is too long is cut to a length that gets the same answer (crates/entry/proofs/Cut.antt).
+// For clock.bin, altitude.bin and reference.bin that is one byte more than the longest that is taken. Of
+// receptions.bin 2,112 bytes, one reception too many, stand for every longer whole number of receptions,
+// and 2,111 for every torn one.
+ghost use Prim.Native.Nat.{_≤_};
+ghost use Rattle.io.specs.Counts.{Counts};
+use libc::ENOENT;
+use libc::STDOUT_FILENO;
+
+// In the place of a descriptor, where a file is absent.
+const ABSENT: i32 = -1;
+
+// In the place of a descriptor, where a file is there and cannot be opened.
+const CLOSED: i32 = -2;
+
+// The first n bytes of a file that is there. It is not `read` where it is there and cannot be.
+struct Part {
+    read: bool,
+    there: bool,
+    n: usize,
+}
+
+// A descriptor of the file, ABSENT, or, said on standard error, CLOSED.
+fn opened(path: &[u8]) -> i32 {
+    let fd = os::open_read(path);
+    if fd >= 0 {
+        return fd;
+    }
+    if os::errno() == ENOENT {
+        return ABSENT;
+    }
+    os::fail(path);
+    CLOSED
+}
+
+// Closes the file. Whether reading on in it does not fail; where it does, that is said.
+fn closed(fd: i32, path: &[u8]) -> bool {
+    let mut byte = [0u8; 1];
+    let read = libc::read(fd, &mut byte) >= 0;
+    if !read {
+        os::fail(path);
+    }
+    libc::close(fd);
+    read
+}
+
+fn read_file(path: &[u8], buf: &mut [u8]) -> Part
+    ensures { λ r. ⌜ Counts (r .n) (now (buf .exit)) ⌝ }
+{
+    let fd = opened(path);
+    if fd < 0 {
+        return Part {
+            read: fd == ABSENT,
+            there: false,
+            n: 0,
+        };
+    }
+    let n = io::read_full(fd, buf);
+    let read = closed(fd, path);
+    Part {
+        read,
+        there: true,
+        n,
+    }
+}
+
+// Reads on, by at most 4,096 bytes.
+fn some_more(fd: i32) -> usize {
+    let mut buf = io::buffer();
+    io::read_full(fd, &mut buf)
+}
+
+// Whether what is left of the file is a whole number of receptions. Nothing says that a file ends, so the
+// turns are counted down.
+fn rest_is_whole(fd: i32) -> bool {
+    let mut turns = u64::MAX;
+    while turns > 0 {
+        let n = some_more(fd);
+        if n < 4096 {
+            return n % 64 == 0;
+        }
+        turns -= 1;
+    }
+    true
+}
+
+fn read_receptions(buf: &mut [u8]) -> Part
+    ensures { λ r. ⌜ Counts (r .n) (now (buf .exit)) ⌝ }
+{
+    let fd = opened(b"receptions.bin");
+    if fd < 0 {
+        return Part {
+            read: fd == ABSENT,
+            there: false,
+            n: 0,
+        };
+    }
+    let n = io::read_full(fd, buf);
+    let whole = rest_is_whole(fd);
+    let read = closed(fd, b"receptions.bin");
+    if n < 2112 {
+        return Part {
+            read,
+            there: true,
+            n,
+        };
+    }
+    if whole {
+        return Part {
+            read,
+            there: true,
+            n,
+        };
+    }
+    Part {
+        read,
+        there: true,
+        n: n - 1,
+    }
+}
+
+// The bit of an input that is there.
+fn bit(there: bool, value: u32) -> u32
+    ensures { λ r. ⌜ r ≤ value ⌝ }
+{
+    if there {
+        return value;
+    }
+    0
+}
+
+fn both(a: bool, b: bool) -> bool {
+    if a {
+        return b;
+    }
+    false
+}
+
 fn main() {
-    files::solve_here();
+    let mut rs = [0u8; 2112];
+    let mut cs = [0u8; 8193];
+    let mut al = [0u8; 17];
+    let mut re = [0u8; 9];
+    let mut out = [0u8; 176];
+    let p = read_receptions(&mut rs);
+    let c = read_file(b"clock.bin", &mut cs);
+    let a = read_file(b"altitude.bin", &mut al);
+    let r = read_file(b"reference.bin", &mut re);
+    let pn = p.n;
+    let cn = c.n;
+    let an = a.n;
+    let rn = r.n;
+    let present = bit(c.there, 1) + bit(a.there, 2) + bit(r.there, 4);
+    let read = both(both(p.read, c.read), both(a.read, r.read));
+    if read {
+        entry::solve(
+            &rs[..pn],
+            &cs[..cn],
+            &al[..an],
+            &re[..rn],
+            present,
+            &mut out,
+        );
+        io::write_all(STDOUT_FILENO, &out);
+    }
 }

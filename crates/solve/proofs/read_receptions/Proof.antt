@@ -1,12 +1,12 @@
--- `files::read_receptions` meets its contract: one byte fewer than were read is within the buffer too. Assumes nothing.
+-- `solve::read_receptions` meets its contract: one byte fewer than were read is within the buffer too. Assumes nothing.
 use borrow.Author.Needs.{needs}
 use Prim.Native.Nat.{_-_, _≤_}
 use mathlib.Core.Path.{sym}
 use native.Mathlib.Omega.{arith}
 use lib.ListN.{length}
 use lib.Seq.{length-take-le}
-use Rattle.files.proofs.read_receptions.Statement.{statement}
-use Rattle.files.proofs.read_receptions.Tie as tie
+use Rattle.solve.proofs.read_receptions.Statement.{statement}
+use Rattle.solve.proofs.read_receptions.Tie as tie
 
 slice-aggregate-opened : tie.Need-slice-aggregate-opened
 slice-aggregate-opened c = search needs

@@ -1,7 +1,7 @@
--- `files::solve_here` calls each function as its contract asks: a part that was read is within its buffer. Assumes nothing.
+-- `solve::main` calls each function as its contract asks: a part that was read is within its buffer. Assumes nothing.
 use borrow.Author.Needs.{needs}
-use Rattle.files.proofs.solve_here.Statement.{statement}
-use Rattle.files.proofs.solve_here.Tie as tie
+use Rattle.solve.proofs.main.Statement.{statement}
+use Rattle.solve.proofs.main.Tie as tie
 
 slice-aggregate-read-receptions : tie.Need-slice-aggregate-read-receptions
 slice-aggregate-read-receptions c = search needs
@@ -102,8 +102,8 @@ returns c = search needs
 returns-2 : tie.Need-returns-2
 returns-2 c = search needs
 
-pub solve-here-spec : {M : Type 1} → statement M
-solve-here-spec =
+pub main-spec : {M : Type 1} → statement M
+main-spec =
     tie.close
     (tie.spec
     slice-aggregate-read-receptions

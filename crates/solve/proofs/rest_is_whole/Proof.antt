@@ -1,7 +1,7 @@
--- `files::rest_is_whole` ends: its turns are counted down. Assumes nothing.
+-- `solve::rest_is_whole` ends: its turns are counted down. Assumes nothing.
 use borrow.Author.Needs.{needs}
-use Rattle.files.proofs.rest_is_whole.Statement.{statement}
-use Rattle.files.proofs.rest_is_whole.Tie as tie
+use Rattle.solve.proofs.rest_is_whole.Statement.{statement}
+use Rattle.solve.proofs.rest_is_whole.Tie as tie
 
 abbrev Inv-loop : tie.InvT-loop
 Inv-loop fd turns₀ turns = Unit {0}
