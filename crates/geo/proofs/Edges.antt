@@ -11,7 +11,7 @@ use Rattle.libm.specs.Words.{high, negative, signed, switch}
 use Rattle.libm.specs.Kernels.{kSin, kCos, qx}
 use Rattle.libm.specs.RemPio2.{npio2Hw, lost, split, stage, remPio2}
 use Rattle.libm.specs.RemPio2 as reduction
-use Rattle.libm.specs.Trig.{sinOf, cosOf, sin, cos, sincos}
+use Rattle.libm.specs.Trig.{quadrant, sin, cos, sincos}
 use Rattle.libm.specs.Atan.{reduce, series, atan, signs, quarter, quotient, atan2}
 use Rattle.libm.specs.Hypotenuse.{scaled, hypot}
 use Rattle.libm.specs.Hypotenuse as length
@@ -28,7 +28,7 @@ on-the-equator = refl
 
 -- a pole, where the height is taken along the axis
 pub at-a-pole : fromEcef (nought ∷ nought ∷ neg (decimal 6356752314245179 9) ∷ []) ≡ at (# 0xC056800000000000) nought nought
-unfolding fromEcef roundsTo roundFrom bowring height primeVertical toDegrees A E2 F degrees sincos sin cos sinOf cosOf kSin kCos qx remPio2 split atan2 signs quarter hypot scaled root high negative signed switch abs neg add sub mul div lt le eq ne round ofBits toBits
+unfolding fromEcef roundsTo roundFrom bowring height primeVertical toDegrees A E2 F degrees sincos sin cos quadrant kSin kCos qx remPio2 split atan2 signs quarter hypot scaled root high negative signed switch abs neg add sub mul div lt le eq ne round ofBits toBits
 at-a-pole = refl
 
 -- an aircraft
@@ -38,7 +38,7 @@ aloft = refl
 
 -- ---- the way back, for a place south and east
 pub sydney : toEcef (at (neg (decimal 339 1)) (decimal 1512 1) (decimal 10000 0)) ≡ # 0xC151BE34DEC0C997 ∷ # 0x41438232C61DC739 ∷ # 0xC14B07936645784A ∷ []
-unfolding toEcef toRadians primeVertical A E2 F radians sincos sin cos sinOf cosOf kSin kCos qx remPio2 reduction.medium npio2Hw lost split stage root high negative signed switch abs neg add sub mul div le ofInt toUnsigned round ofBits toBits
+unfolding toEcef toRadians primeVertical A E2 F radians sincos sin cos quadrant kSin kCos qx remPio2 reduction.medium npio2Hw lost split stage root high negative signed switch abs neg add sub mul div le ofInt toUnsigned round ofBits toBits
 sydney = refl
 
 -- an angle beyond ±7 radians has no sine and no cosine

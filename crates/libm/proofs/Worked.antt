@@ -8,8 +8,8 @@ use Rattle.libm.specs.Words.{high, negative, signed, switch}
 use Rattle.libm.specs.Kernels.{kSin, kCos, qx}
 use Rattle.libm.specs.RemPio2.{npio2Hw, lost, split, stage, remPio2}
 use Rattle.libm.specs.RemPio2 as reduction
-use Rattle.libm.specs.Trig.{sinOf, cosOf, sin, cos, limit}
-use Rattle.libm.specs.Atan.{reduce, series, atan, signs, quarter, xInf, quotient, atan2, pi, pi-o-2, atanhi0, three}
+use Rattle.libm.specs.Trig.{quadrant, sin, cos, limit}
+use Rattle.libm.specs.Atan.{reduce, series, atan, signs, quarter, xInf, quotient, atan2, pi, pi-o-2, atanhi}
 use Rattle.libm.specs.Hypotenuse.{infOrNan, scaled, hypot}
 use Rattle.libm.specs.Hypotenuse as hypotenuse
 
@@ -23,7 +23,7 @@ sines
     × (sin limit ≡ # 0x3FE50608C26D0A08)
     × (sin (# 0x401C000000000001) ≡ nan)
     × (sin nan ≡ nan)
-unfolding sin sinOf kSin kCos qx remPio2 reduction.medium npio2Hw lost split stage high negative signed switch abs neg add sub mul le ofInt toUnsigned ofBits toBits
+unfolding sin quadrant kSin kCos qx remPio2 reduction.medium npio2Hw lost split stage high negative signed switch abs neg add sub mul le ofInt toUnsigned ofBits toBits
 sines = (refl, refl, refl, refl, refl, refl, refl, refl)
 
 -- 0; 0.7, which takes qx; the binary64 nearest to pi / 2, which takes two stages; 2; an infinity
@@ -33,7 +33,7 @@ cosines
     × (cos pi-o-2 ≡ # 0x3C91A62633145C07)
     × (cos two ≡ # 0xBFDAA22657537205)
     × (cos (inf false) ≡ nan)
-unfolding cos cosOf kSin kCos qx remPio2 reduction.medium npio2Hw lost split stage high switch abs neg add sub mul le ofInt toUnsigned ofBits toBits
+unfolding cos quadrant kSin kCos qx remPio2 reduction.medium npio2Hw lost split stage high switch abs neg add sub mul le ofInt toUnsigned ofBits toBits
 cosines = (refl, refl, refl, refl, refl)
 
 -- the signs of zero, the infinities, and two quotients
@@ -43,7 +43,7 @@ arcs
     × (atan2 (neg nought) (neg nought) ≡ neg pi)
     × (atan2 one nought ≡ pi-o-2)
     × (atan2 (inf false) (inf true) ≡ # 0x4002D97C7F3321D2)
-    × (atan2 one two ≡ atanhi0)
+    × (atan2 one two ≡ atanhi 0)
     × (atan2 (neg one) (neg one) ≡ # 0xC002D97C7F3321D2)
 unfolding atan2 atan reduce series signs quarter xInf quotient high negative signed switch abs neg add sub mul div eq ne ofBits toBits
 arcs = (refl, refl, refl, refl, refl, refl, refl)
@@ -51,7 +51,7 @@ arcs = (refl, refl, refl, refl, refl, refl, refl)
 -- 3 and 4 give 5, also times 2^600; an infinity with a not-a-number; the least value twice; a subnormal, where high words taken anew would change the last bit; and
 -- two of one high word, where the order of the two changes it
 lengths
-    : (hypot three (# 0x4010000000000000) ≡ # 0x4014000000000000)
+    : (hypot (# 0x4008000000000000) (# 0x4010000000000000) ≡ # 0x4014000000000000)
     × (hypot (# 0x6588000000000000) (# 0x6590000000000000) ≡ # 0x6594000000000000)
     × (hypot (inf true) nan ≡ inf false)
     × (hypot (# 1) (# 1) ≡ # 1)

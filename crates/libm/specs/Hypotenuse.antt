@@ -25,24 +25,15 @@ medium a b ha hb =
     let t2 = (a ⊕ a) ⊖ t1 in
     root (t1 ⊗ y1 ⊖ (w ⊗ neg w ⊖ (t1 ⊗ y2 ⊕ t2 ⊗ b))))
 
--- 2^600, 2^-600, 2^1022 and 2^-1022
-abbrev pub two600 : Float
-two600 = # 0x6570000000000000
-
-abbrev pub two-600 : Float
-two-600 = # 0x1A70000000000000
-
-abbrev pub two1022 : Float
-two1022 = # 0x7FD0000000000000
-
-abbrev pub two-1022 : Float
-two-1022 = # 0x0010000000000000
-
 -- a and b without their signs, and their high words, of which ha is not the lesser. Past a gap of 60 in the exponents it is a + b. Past the high word 0x5F300000,
 -- which is 2^500, both are scaled by 2^-600, and where b is below 0x20B00000, which is 2^-500, by 2^600; the words move along, by 600 in the exponent's field. Where
 -- b is subnormal both are scaled by 2^1022, and the words stay what they were: a choice that decides bits. The scalings exclude each other, the gap being at most 60.
 unfoldable pub scaled : Float → Float → ℕ → ℕ → Float
 scaled a b ha hb =
+    let two600 = # 0x6570000000000000 in
+    let two-600 = # 0x1A70000000000000 in
+    let two1022 = # 0x7FD0000000000000 in
+    let two-1022 = # 0x0010000000000000 in
     cond (ltb 0x3c00000 (ha - hb)) (a ⊕ b)
     (cond (ltb 0x5f300000 ha)
     (cond (leb 0x7ff00000 ha) (infOrNan a b) (two600 ⊗ medium (a ⊗ two-600) (b ⊗ two-600) (ha - 0x25800000) (hb - 0x25800000)))

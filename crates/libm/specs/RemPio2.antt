@@ -2,34 +2,23 @@
 use Prim.Native.Nat.{ℕ, _-_, _/_, _^_}
 use mathlib.Core.Bool.{not, cond}
 use lib.IntN.{pos}
+use mathlib.Core.List.{[], _∷_}
 use lib.Dec.{leb, ltb, eqb}
-use lib.Ieee.{Float, binary64, ofInt, toUnsigned}
+use lib.ListN.{getD}
+use lib.Ieee.{Float, nan, binary64, ofInt, toUnsigned}
 use Rattle.binary64.specs.Steps.{_⊕_, _⊖_, _⊗_, #, half}
 use Rattle.libm.specs.Words.{high}
 use Rattle.libm.specs.declared.rem_pio2.Reduced.{Reduced}
 use Rattle.libm.specs.declared.rem_pio2.Rest.{Rest}
 
--- the constants of e_rem_pio2.c: 2 / pi; three parts of pi / 2, of 33 binary digits each; and, with a t, the rest of pi / 2 after each part
-abbrev pub invpio2 : Float
-invpio2 = # 0x3FE45F306DC9C883
+-- pio2_1, pio2_2 and pio2_3 of e_rem_pio2.c, three parts of pi / 2, of 33 binary digits each: 1.57079632673412561417e+00, 6.07710050630396597660e-11 and
+-- 2.02226624871116645580e-21. pio2_1t, pio2_2t and pio2_3t, the rest of pi / 2 after each: 6.07710050650619224932e-11, 2.02226624879595063154e-21 and
+-- 8.47842766036889956997e-32
+abbrev pub pio2 : ℕ → Float
+pio2 k = getD (# 0x3FF921FB54400000 ∷ # 0x3DD0B4611A600000 ∷ # 0x3BA3198A2E000000 ∷ []) (k - 1) nan
 
-abbrev pub pio2-1 : Float
-pio2-1 = # 0x3FF921FB54400000
-
-abbrev pub pio2-1t : Float
-pio2-1t = # 0x3DD0B4611A626331
-
-abbrev pub pio2-2 : Float
-pio2-2 = # 0x3DD0B4611A600000
-
-abbrev pub pio2-2t : Float
-pio2-2t = # 0x3BA3198A2E037073
-
-abbrev pub pio2-3 : Float
-pio2-3 = # 0x3BA3198A2E000000
-
-abbrev pub pio2-3t : Float
-pio2-3t = # 0x397B839A252049C1
+abbrev pub pio2t : ℕ → Float
+pio2t k = getD (# 0x3DD0B4611A626331 ∷ # 0x3BA3198A2E037073 ∷ # 0x397B839A252049C1 ∷ []) (k - 1) nan
 
 -- `npio2_hw[n-1]`, the high word of n * pi / 2: fdlibm's first four, since an angle up to 7 has an n from 1 to 4
 unfoldable pub npio2Hw : ℕ → ℕ
@@ -55,12 +44,13 @@ stage t f part tail =
 -- there is a second stage only where x has the high word of n * pi / 2 and the first loses more than 16 places, and a third only where still more than 49 are lost.
 unfoldable pub medium : Float → Reduced
 medium x =
+    let invpio2 = # 0x3FE45F306DC9C883 in  -- 6.36619772367581382433e-01, which is 2 / pi
     let n = toUnsigned 64 (x ⊗ invpio2 ⊕ half) in
     let f = ofInt binary64 (pos n) in
-    let r = x ⊖ f ⊗ pio2-1 in
-    let w = f ⊗ pio2-1t in
-    let second = stage r f pio2-2 pio2-2t in
-    let third = stage (second .r) f pio2-3 pio2-3t in
+    let r = x ⊖ f ⊗ pio2 1 in
+    let w = f ⊗ pio2t 1 in
+    let second = stage r f (pio2 2) (pio2t 2) in
+    let third = stage (second .r) f (pio2 3) (pio2t 3) in
     cond (not (eqb (high x) (npio2Hw n))) (split n r w)
     (cond (leb (lost x (r ⊖ w)) 16) (split n r w)
     (cond (leb (lost x (second .r ⊖ second .w)) 49) (split n (second .r) (second .w))
@@ -71,5 +61,5 @@ medium x =
 -- most, the second where x has the high word of pi / 2.
 unfoldable pub remPio2 : Float → Reduced
 remPio2 x =
-    let z = x ⊖ pio2-1 in
-    cond (ltb (high x) 0x4002d97c) (cond (not (eqb (high x) 0x3ff921fb)) (split 1 z pio2-1t) (split 1 (z ⊖ pio2-2) pio2-2t)) (medium x)
+    let z = x ⊖ pio2 1 in
+    cond (ltb (high x) 0x4002d97c) (cond (not (eqb (high x) 0x3ff921fb)) (split 1 z (pio2t 1)) (split 1 (z ⊖ pio2 2) (pio2t 2))) (medium x)

@@ -14,28 +14,22 @@ use Rattle.libm.specs.declared.trig.SinCos.{SinCos}
 abbrev pub limit : Float
 limit = # 0x401C000000000000
 
--- s_sin.c's `switch(n&3)`: the sine of n * pi / 2 + y
-unfoldable pub sinOf : Reduced → Float
-sinOf y =
+-- s_sin.c's `switch(n&3)` and s_cos.c's: the sine and the cosine of n * pi / 2 + y
+unfoldable pub quadrant : Reduced → SinCos
+quadrant y =
+    let n = y .n % 4 in
     let s = kSin (y .y0) (y .y1) 1 in
     let c = kCos (y .y0) (y .y1) in
-    switch (y .n % 4) s c (neg s) (neg c)
-
--- s_cos.c's `switch(n&3)`: the cosine of n * pi / 2 + y
-unfoldable pub cosOf : Reduced → Float
-cosOf y =
-    let s = kSin (y .y0) (y .y1) 1 in
-    let c = kCos (y .y0) (y .y1) in
-    switch (y .n % 4) c (neg s) (neg c) s
+    record { sin = switch n s c (neg s) (neg c); cos = switch n c (neg s) (neg c) s }
 
 -- `sin`. Up to the high word 0x3FE921FB, which is that of pi / 4, the kernel takes x as it is, with no tail. Beyond that |x| is reduced, and the sign of x goes to
 -- the result (`remPio2`). Past `limit`, where fdlibm goes on reducing, document 01 has not-a-number, and so an infinity and a not-a-number give it.
 unfoldable pub sin : Float → Float
-sin x = cond (leb (high x) 0x3fe921fb) (kSin x nought 0) (cond (le (abs x) limit) (signed x (sinOf (remPio2 (abs x)))) nan)
+sin x = cond (leb (high x) 0x3fe921fb) (kSin x nought 0) (cond (le (abs x) limit) (signed x (quadrant (remPio2 (abs x)) .sin)) nan)
 
 -- `cos`, by the same cases
 unfoldable pub cos : Float → Float
-cos x = cond (leb (high x) 0x3fe921fb) (kCos x nought) (cond (le (abs x) limit) (cosOf (remPio2 (abs x))) nan)
+cos x = cond (leb (high x) 0x3fe921fb) (kCos x nought) (cond (le (abs x) limit) (quadrant (remPio2 (abs x)) .cos) nan)
 
 -- document 01's "both together": the pair
 unfoldable pub sincos : Float → SinCos

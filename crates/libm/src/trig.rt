@@ -1,6 +1,6 @@
 // Sine and cosine: s_sin.c and s_cos.c of fdlibm 5.3, for angles within ±7.
 ghost use mathlib.Core.Path.{_≡_};
-ghost use Rattle.libm.specs.Trig.{sinOf, cosOf, sin, cos};
+ghost use Rattle.libm.specs.Trig.{quadrant, sin, cos};
 use crate::kernels::k_cos;
 use crate::kernels::k_sin;
 use crate::rem_pio2::LIMIT;
@@ -11,7 +11,7 @@ use crate::words::signed;
 
 // The sine of n * pi/2 + y: s_sin.c's `switch(n&3)`.
 fn sin_of(y: Reduced) -> f64
-    ensures { λ r. ⌜ r ≡ sinOf y ⌝ }
+    ensures { λ r. ⌜ r ≡ quadrant y .sin ⌝ }
 {
     let n = y.n % 4;
     if n == 0 {
@@ -26,21 +26,16 @@ fn sin_of(y: Reduced) -> f64
     -k_cos(y.y0, y.y1)
 }
 
-// The cosine of n * pi/2 + y: s_cos.c's `switch(n&3)`.
+// The cosine of n * pi/2 + y is the sine a quarter turn on: s_cos.c's `switch(n&3)` is s_sin.c's, one
+// case on.
 fn cos_of(y: Reduced) -> f64
-    ensures { λ r. ⌜ r ≡ cosOf y ⌝ }
+    ensures { λ r. ⌜ r ≡ quadrant y .cos ⌝ }
 {
-    let n = y.n % 4;
-    if n == 0 {
-        return k_cos(y.y0, y.y1);
-    }
-    if n == 1 {
-        return -k_sin(y.y0, y.y1, 1);
-    }
-    if n == 2 {
-        return -k_cos(y.y0, y.y1);
-    }
-    k_sin(y.y0, y.y1, 1)
+    sin_of(Reduced {
+        n: y.n % 4 + 1,
+        y0: y.y0,
+        y1: y.y1,
+    })
 }
 
 // The sine of x; not-a-number beyond ±7.

@@ -1,7 +1,7 @@
 -- `libm::both::sincos` meets its contract: each return is one case of `sin` beside the same case of `cos`, and 0 / 0 is not-a-number (`zero-by-zero`). Assumes nothing.
 use borrow.Author.Needs.{needs}
 use borrow.Author.Tests.{le-leb, lt-leb}
-use Rattle.libm.specs.Trig.{sin, cos, sinOf, cosOf, sincos}
+use Rattle.libm.specs.Trig.{sin, cos, quadrant, sincos}
 use Rattle.binary64.proofs.Patterns.{zero-by-zero}
 use Rattle.libm.proofs.both.sincos.Statement.{statement}
 use Rattle.libm.proofs.both.sincos.Tie as tie
@@ -41,7 +41,7 @@ switch-requires-2 : tie.Need-switch-requires-2
 switch-requires-2 c κs = search needs
 
 returns-2 : tie.Need-returns-2
-unfolding sincos sin cos sinOf cosOf
+unfolding sincos sin cos quadrant
 returns-2 c =
     let at-k-cos2 = c .before .before .before in
     let at-rem-pio2 = at-k-cos2 .before .before .before in
