@@ -7,11 +7,10 @@ use mathlib.Core.Bool.{Bool, true, false, not, cond}
 use lib.Dec.{T, leb, leb→le, nleb→lt}
 use lib.Ieee.{size}
 use lib.Ieee.Digits.{size-lt}
-use Rattle.binary64.specs.Root.{digit, digits, floorRoot}
+use Rattle.binary64.specs.Root.{digits, floorRoot}
 use Rattle.binary64.proofs.Squares.{Floored, sq-suc, sq-two, sq-odd}
 
-digit-law : (n r : ℕ) → Floored (n / 4) r → Floored n (digit n (2 * r))
-unfolding digit
+digit-law : (n r : ℕ) → Floored (n / 4) r → Floored n (cond (leb ((2 * r + 1) * (2 * r + 1)) n) (2 * r + 1) (2 * r))
 digit-law n r f = go (leb ((2 * r + 1) * (2 * r + 1)) n) (leb→le ((2 * r + 1) * (2 * r + 1)) n) (nleb→lt ((2 * r + 1) * (2 * r + 1)) n)
   where
     go : (b : Bool) → (T b → (2 * r + 1) * (2 * r + 1) ≤ n) → (T (not b) → n < (2 * r + 1) * (2 * r + 1)) → Floored n (cond b (2 * r + 1) (2 * r))

@@ -10,14 +10,13 @@ use mathlib.Core.Bool.{Bool, true, false, false≢true}
 use lib.Pow.{pow-add, pow-pos, pow-mono, pow-lt, shl-lt}
 use lib.Ieee.{Float, nan, inf, fin, binary64, down, units, round}
 use lib.Ieee.Fits.{up-pos, round-fits}
-use lib.Ieee.Exact.{units-val, round-exact}
+use lib.Ieee.Exact.{HasValue, units-val, round-exact}
 use lib.Ieee.Back.{round-whole, whole-unique}
 use lib.Ieee.Bits.{ofBits-fits}
 use Rattle.binary64.specs.Steps.{isFinite}
-use Rattle.binary64.specs.NearRoot.{Nearest}
-use Rattle.binary64.specs.Root.{root, rootUnits}
+use Rattle.binary64.specs.Root.{root, rootUnits, Nearest}
 use Rattle.binary64.specs.Rounding.{halfAway}
-use Rattle.binary64.specs.Meaning.{IsBinary64, HasUnits, IsWhole, FiniteHasUnits, Nearer, NearestRoot, RootIsNearest, RootElsewhere, RoundedHalfAway, RoundsHalfAway, OthersPassThrough}
+use Rattle.binary64.specs.Meaning.{IsBinary64, HasUnits, FiniteHasUnits, Nearer, NearestRoot, RootIsNearest, RootElsewhere, RoundedHalfAway, RoundsHalfAway, OthersPassThrough}
 use Rattle.binary64.proofs.RootLaw.{root-law}
 use Rattle.binary64.proofs.BitsLaw.{bits-law}
 use Rattle.binary64.proofs.Decode.{root-value, root-negative}
@@ -106,9 +105,7 @@ unfolding root
 root-elsewhere = record {
   zeros = root-zeros;
   negatives = root-negative;
-  infinity = refl;
-  minusInfinity = refl;
-  notANumber = refl;
+  others = (refl, refl, refl);
 }
 
 -- ---- rounding: with L for 2 ^ 1074, |x| + 1/2 is (2 * a + L) / (2 * L)
@@ -128,12 +125,12 @@ at-most a L q t h k = elim (either q t) [
 ]
 
 -- the format holds the quotient: with j at least 1074 it is x itself, and below that at most 2 ^ 53
-holds : (s : Bool) (a : ℕ) → Held a → let q = (2 * a + 2 ^ 1074) / (2 * 2 ^ 1074) in IsWhole (round binary64 s q 1) s q
+holds : (s : Bool) (a : ℕ) → Held a → let q = (2 * a + 2 ^ 1074) / (2 * 2 ^ 1074) in HasValue (round binary64 s q 1) s q 1
 holds s a k = elim (either 1074 (k .j)) [
   | inl l ↦
       let c = k .m * 2 ^ (k .j - 1074) in
       let e : k .m * 2 ^ k .j ≡ c * 2 ^ 1074 = coarse (k .m) (k .j) 1074 l in
-      subst (λ (x : ℕ). IsWhole (round binary64 s x 1) s x) (sym (whole a c (2 ^ 1074) (pow-pos 1074) (k .is ∙ e)))
+      subst (λ (x : ℕ). HasValue (round binary64 s x 1) s x 1) (sym (whole a c (2 ^ 1074) (pow-pos 1074) (k .is ∙ e)))
       (round-exact binary64 s c 1 (k .m) (k .j) (zero-lt-suc 0) (k .digits) (subst (λ (x : ℕ). x < 2 ^ 2098) (k .is) (k .below)) (sym e ∙ sym (mul-one (k .m * 2 ^ k .j))))
   | inr l ↦ round-whole binary64 s _ (small a (2 ^ 1074) (pow-pos 1074) (lt-of-le-of-lt (le-of-eq (k .is)) (lt-of-lt-of-le (shl-lt 53 (k .j) (k .digits)) (le-trans (pow-mono (near (k .j) l)) (le-of-eq (pow-add 2 53 1074))))))
 ]
@@ -149,14 +146,14 @@ holds s a k = elim (either 1074 (k .j)) [
 
 one-whole : (s : Bool) (a : ℕ) (v u : Float) → RoundedHalfAway s a v → RoundedHalfAway s a u → v ≡ u
 one-whole s a v u f g =
-    let e : f .q ≡ g .q = le-antisymm (at-most a (2 ^ 1074) (f .q) (g .q) (f .most) (g .least)) (at-most a (2 ^ 1074) (g .q) (f .q) (g .most) (f .least)) in
-    whole-unique binary64 v u s (g .q) (f .binary) (g .binary) (subst (IsWhole v s) e (f .value)) (g .value)
+    let e : f .q ≡ g .q = le-antisymm (at-most a (2 ^ 1074) (f .q) (g .q) (f .within .1) (g .within .0)) (at-most a (2 ^ 1074) (g .q) (f .q) (g .within .1) (f .within .0)) in
+    whole-unique binary64 v u s (g .q) (f .binary) (g .binary) (subst (λ (q : ℕ). HasValue v s q 1) e (f .value)) (g .value)
 
 pub rounds-half-away : RoundsHalfAway
 rounds-half-away x s a f k =
     let q = (2 * a + 2 ^ 1074) / (2 * 2 ^ 1074) in
     let b = between a (2 ^ 1074) (pow-pos 1074) in
-    let r : RoundedHalfAway s a (round binary64 s q 1) = record { binary = round-fits binary64 s q 1; q = q; value = holds s a (is-held x s a f k); least = b .0; most = b .1 } in
+    let r : RoundedHalfAway s a (round binary64 s q 1) = record { binary = round-fits binary64 s q 1; q = q; value = holds s a (is-held x s a f k); within = b } in
     let g : RoundedHalfAway s a (halfAway x) = subst (RoundedHalfAway s a) (sym (half-value x s a k)) r in
     (g, λ v h. one-whole s a v (halfAway x) h g)
 

@@ -8,7 +8,7 @@ use native.Mathlib.Nat.{le-trans, le-of-eq, lt-of-lt-of-le, lt-of-le-of-lt, lt-i
 use native.Mathlib.Omega.{arith}
 use lib.Dec.{T, leb, leb→le, nleb→lt}
 use lib.Pow.{pow-add, pow-pos, pow-mono, shl-lt}
-use Rattle.binary64.specs.NearRoot.{Nearest}
+use Rattle.binary64.specs.Root.{Nearest}
 use Rattle.binary64.proofs.Squares.{sq-suc, sq-odd}
 
 -- which grid m * 2 ^ j lies on, beside 2 ^ h

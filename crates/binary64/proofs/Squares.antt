@@ -3,7 +3,7 @@ use mathlib.Core.Path.{_≡_, subst}
 use Prim.Native.Nat.{ℕ, suc, _+_, _-_, _*_, _≤_, _<_}
 use native.Mathlib.Nat.{le-antisymm, lt-of-not-le, not-le-of-lt, le-of-suc-le-suc, add-mul, mul-add, mul-le-mul, mul-mul-mul-comm}
 use native.Mathlib.Omega.{arith}
-use Rattle.binary64.specs.NearRoot.{Nearest}
+use Rattle.binary64.specs.Root.{Nearest}
 
 pub sq-suc : (q : ℕ) → (q + 1) * (q + 1) ≡ q * q + 2 * q + 1
 sq-suc q = omega (arith, mul-add (q + 1) q 1, add-mul q 1 q)

@@ -2,4 +2,3 @@ pub mod Steps
 pub mod Root
 pub mod Rounding
 pub mod Meaning
-pub mod NearRoot

@@ -18,10 +18,6 @@ IsBinary64 x = T (fits binary64 x)
 abbrev pub HasUnits : Float → Bool → ℕ → Type 0
 HasUnits x s a = HasValue x s a (2 ^ 1074)
 
--- x is the whole number q, with the sign s
-abbrev pub IsWhole : Float → Bool → ℕ → Type 0
-IsWhole x s q = HasValue x s q 1
-
 -- every finite binary64 has such a size, so what follows leaves none out
 abbrev pub FiniteHasUnits : Type 0
 FiniteHasUnits = (x : Float) → IsBinary64 x → isFinite x ≡ true → (s : Bool) × (a : ℕ) × HasUnits x s a
@@ -50,20 +46,17 @@ RootIsNearest = (x : Float) (a : ℕ) → IsBinary64 x → HasUnits x false a �
 pub record RootElsewhere : Type 0 where
   pub zeros : (x : Float) (s : Bool) → HasUnits x s 0 → root x ≡ x
   pub negatives : (x : Float) (a : ℕ) → HasUnits x true a → 0 < a → root x ≡ nan
-  pub infinity : root (inf false) ≡ inf false
-  pub minusInfinity : root (inf true) ≡ nan
-  pub notANumber : root nan ≡ nan
+  pub others : (root (inf false) ≡ inf false) × (root (inf true) ≡ nan) × (root nan ≡ nan)
 
 -- ---- rounding
 
--- Of an x with the sign s and a units in size: v is a binary64 and a whole number with that sign, and |x| - 1/2 < |v| ≤ |x| + 1/2, in units and doubled.
+-- Of an x with the sign s and a units in size: v is a binary64 and a whole number q with that sign, and |x| - 1/2 < |v| ≤ |x| + 1/2, in units and doubled.
 -- So v is at most a half away, and at a tie it is the one farther from zero.
 pub record RoundedHalfAway (s : Bool) (a : ℕ) (v : Float) : Type 0 where
   pub binary : IsBinary64 v
   pub q : ℕ
-  pub value : IsWhole v s q
-  pub least : 2 * a < 2 * (q * 2 ^ 1074) + 2 ^ 1074
-  pub most : 2 * (q * 2 ^ 1074) ≤ 2 * a + 2 ^ 1074
+  pub value : HasValue v s q 1
+  pub within : (2 * a < 2 * (q * 2 ^ 1074) + 2 ^ 1074) × (2 * (q * 2 ^ 1074) ≤ 2 * a + 2 ^ 1074)
 
 -- Document 01: "Rounding half away from zero, to an f64". For every finite x, `halfAway x` is so rounded, and nothing else is.
 abbrev pub RoundsHalfAway : Type 0

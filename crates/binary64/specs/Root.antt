@@ -1,19 +1,14 @@
 -- Document 01, "Square root by IEEE 754: the binary64 nearest the exact root, ties to even, -0 gives -0, negatives give not-a-number", worked out over whole numbers.
 -- Definitions only; Meaning.antt says what they come to.
-use Prim.Native.Nat.{ℕ, zero, suc, _+_, _-_, _*_, _/_, _^_, compare}
+use Prim.Native.Nat.{ℕ, zero, suc, _+_, _-_, _*_, _/_, _^_, _≤_, _<_, compare}
 use mathlib.Core.Bool.{false, cond}
 use lib.Dec.{leb, eqb}
 use lib.Ieee.{Float, nan, inf, fin, binary64, prec, low, up, down, size, nearest, units}
 
--- one binary digit more: r is twice the floored root of n / 4
-unfoldable pub digit : ℕ → ℕ → ℕ
-digit n r = cond (leb ((r + 1) * (r + 1)) n) (r + 1) r
-
--- the floored root of an n of at most d binary digits, digit by digit
+-- the floored root of an n of at most d binary digits, digit by digit: twice the floored root of n / 4, or one more
 unfoldable pub digits : ℕ → ℕ → ℕ
-unfolding digit
 digits zero n = 0
-digits (suc d) n = digit n (2 * digits d (n / 4))
+digits (suc d) n = let r = 2 * digits d (n / 4) in cond (leb ((r + 1) * (r + 1)) n) (r + 1) r
 
 -- the greatest r with r * r ≤ n (`floored` in proofs/Floor.antt)
 unfoldable pub floorRoot : ℕ → ℕ
@@ -37,3 +32,8 @@ unfolding rootUnits
 root nan = nan
 root (inf s) = cond s nan (inf false)
 root (fin s m e) = cond (eqb m 0) (fin s m e) (cond s nan (rootUnits (m * up e * 2 ^ (2 * low binary64) / down e)))
+
+-- what the inner functions of src/square_root.rt promise each other: r is the whole number nearest to the root of w, (r - 1/2) ^ 2 < w < (r + 1/2) ^ 2, multiplied out over
+-- whole numbers
+abbrev pub Nearest : ℕ → ℕ → Type 0
+Nearest w r = (r * r < w + r) × (w ≤ r * r + r)

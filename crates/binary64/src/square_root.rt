@@ -3,8 +3,7 @@ ghost use mathlib.Core.Path.{_≡_};
 ghost use Prim.Native.Nat.{_+_, _*_, _/_, _^_, _<_, _≤_};
 ghost use mathlib.Core.Bool.{true};
 ghost use lib.Ieee.{binary64, ofBits};
-ghost use Rattle.binary64.specs.NearRoot.{Settled};
-ghost use Rattle.binary64.specs.Root.{root, rootUnits};
+ghost use Rattle.binary64.specs.Root.{root, rootUnits, Nearest};
 use crate::DIGITS;
 use crate::INFINITY;
 use crate::LEAD;
@@ -28,7 +27,7 @@ fn above(r: u64) -> u64
 // one square.
 fn near(m: u64, r: u64) -> bool
     requires { ⌜ (m < 2 ^ 54) × (2 ^ 52 ≤ r) × (r ≤ 2 ^ 53) ⌝ }
-    ensures { λ ok. ⌜ (ok ≡ true → Settled m r) ⌝ }
+    ensures { λ ok. ⌜ (ok ≡ true → Nearest (m * 2 ^ 52) r) ⌝ }
 {
     let a = r >> 26;
     let b = r & 0x3ff_ffff;
@@ -47,7 +46,7 @@ fn near(m: u64, r: u64) -> bool
 // The whole number nearest to the root of m * 2^52, by halving the range that it lies in.
 fn bisect(m: u64) -> u64
     requires { ⌜ (2 ^ 52 ≤ m) × (m < 2 ^ 54) ⌝ }
-    ensures { λ r. ⌜ Settled m r ⌝ }
+    ensures { λ r. ⌜ Nearest (m * 2 ^ 52) r ⌝ }
 {
     // 2^52 - 1 is too small, and 2^53 is not
     let mut low = DIGITS;
@@ -101,7 +100,7 @@ fn guess(m: u64, odd: u64) -> u64
 // The whole number nearest to the root of m * 2^(52 + odd).
 fn settle(m: u64, odd: u64) -> u64
     requires { ⌜ (2 ^ 52 ≤ m) × (m < 2 ^ 53) × (odd < 2) ⌝ }
-    ensures { λ r. ⌜ Settled (m * 2 ^ odd) r ⌝ }
+    ensures { λ r. ⌜ Nearest (m * 2 ^ odd * 2 ^ 52) r ⌝ }
 {
     let whole = m << odd;
     let r = guess(m, odd);

@@ -8,8 +8,7 @@ use lib.Dec.{leb, lit≤}
 use lib.Pow.{pow-add, pow-pos}
 use lib.Ieee.{Float, binary64, ofFields}
 use Rattle.binary64.specs.Steps.{#}
-use Rattle.binary64.specs.NearRoot.{Nearest}
-use Rattle.binary64.specs.Root.{root, rootUnits}
+use Rattle.binary64.specs.Root.{root, rootUnits, Nearest}
 use Rattle.binary64.proofs.BitsLaw.{bits-law}
 use Rattle.binary64.proofs.Decode.{clear, fields-mid, root-value}
 use Rattle.binary64.proofs.RootLaw.{root-law}
@@ -38,11 +37,11 @@ root-units m lo hi =
 
 pub root-below-one : (u s : Float) (m r : ℕ) → BelowOne u m → BelowOne s r → Nearest (m * 2 ^ 53) r → s ≡ root u
 root-below-one u s m r bu bs near =
-    bs .bits
-    ∙ bits-law r 1021 (bs .least) (le-of-lt (bs .most)) (omega arith)
-    ∙ sym (root-law (m * 2 ^ 53) 1021 r (let l = bu .least in omega arith) (let l = bu .most in omega arith) near)
-    ∙ sym (root-units m (bu .least) (bu .most))
-    ∙ ap root (sym (bu .bits))
+    bs .2
+    ∙ bits-law r 1021 (bs .0) (le-of-lt (bs .1)) (omega arith)
+    ∙ sym (root-law (m * 2 ^ 53) 1021 r (omega arith) (omega arith) near)
+    ∙ sym (root-units m (bu .0) (bu .1))
+    ∙ ap root (sym (bu .2))
 
 -- ---- two words
 

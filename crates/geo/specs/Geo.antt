@@ -30,20 +30,13 @@ E2 = F ⊗ (decimal 2 0 ⊖ F)
 unfoldable pub C : Float
 C = decimal 299792458 0
 
--- Document 01: "Degrees and radians are one multiplication by the rounded constant." The constants are π / 180 and 180 / π, here by their first 32 digits. Rust writes `PI / 180.0` and `180.0 / PI`,
--- which are the same (proofs/Constants.antt).
-unfoldable pub radians : Float
-radians = decimal 17453292519943295769236907684886 33
-
-unfoldable pub degrees : Float
-degrees = decimal 57295779513082320876798154814105 30
-
--- Rust's `f64::to_radians` and `f64::to_degrees`
+-- Rust's `f64::to_radians` and `f64::to_degrees`. Document 01: "Degrees and radians are one multiplication by the rounded constant." The constants are π / 180 and 180 / π, here by their first 32
+-- digits. Rust writes `PI / 180.0` and `180.0 / PI`, which are the same (proofs/Constants.antt).
 unfoldable pub toRadians : Float → Float
-toRadians x = x ⊗ radians
+toRadians x = x ⊗ decimal 17453292519943295769236907684886 33
 
 unfoldable pub toDegrees : Float → Float
-toDegrees x = x ⊗ degrees
+toDegrees x = x ⊗ decimal 57295779513082320876798154814105 30
 
 -- n of `to_ecef` and `from_ecef`, `A / (1.0 - E2 * sin_lat * sin_lat).sqrt()`: the radius of curvature in the prime vertical
 unfoldable pub primeVertical : Float → Float
@@ -70,19 +63,10 @@ bowring p z lat =
     let h = height p z (at .sin) (at .cos) n in
     record { height = h; x = p ⊗ (one ⊖ E2 ⊗ n ⊘ (n ⊕ h)) }
 
--- what the loop of `from_ecef` carries
-pub record Iterate : Type 0 where
-  pub lat : Float
-  pub height : Float
-
--- a round from this latitude
-unfoldable pub roundFrom : Float → Float → Float → Iterate
-roundFrom p z lat = let found = bowring p z lat in record { lat = atan2 z (found .x); height = found .height }
-
--- before the loop, and after k rounds
-unfoldable pub roundsTo : Float → Float → ℕ → Iterate
-roundsTo p z zero = record { lat = atan2 z (p ⊗ (one ⊖ E2)); height = nought }
-roundsTo p z (suc k) = roundFrom p z (roundsTo p z k .lat)
+-- the loop of `from_ecef`, before it and after k rounds. Its `lat` is `atan2 z x` at every turn.
+unfoldable pub roundsTo : Float → Float → ℕ → Round
+roundsTo p z zero = record { height = nought; x = p ⊗ (one ⊖ E2) }
+roundsTo p z (suc k) = bowring p z (atan2 z (roundsTo p z k .x))
 
 -- `from_ecef`. Document 01: "`from_ecef` makes six rounds."
 unfoldable pub fromEcef : List Float → Geodetic
@@ -91,7 +75,7 @@ fromEcef ecef =
     let y = getD ecef 1 nan in
     let z = getD ecef 2 nan in
     let last = roundsTo (hypot x y) z 6 in
-    record { «lat_deg» = toDegrees (last .lat); «lon_deg» = toDegrees (atan2 y x); «height_m» = last .height }
+    record { «lat_deg» = toDegrees (atan2 z (last .x)); «lon_deg» = toDegrees (atan2 y x); «height_m» = last .height }
 
 -- `enu_basis`: east, north and up
 unfoldable pub enuBasis : Float → Float → List (List Float)

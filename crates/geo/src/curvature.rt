@@ -4,8 +4,7 @@
 ghost use mathlib.Core.Path.{_≡_};
 ghost use mathlib.Core.Bool.{true};
 ghost use Prim.Native.Nat.{_*_, _^_, _<_};
-ghost use Rattle.binary64.specs.NearRoot.{Nearest};
-ghost use Rattle.binary64.specs.Root.{root};
+ghost use Rattle.binary64.specs.Root.{root, Nearest};
 ghost use Rattle.geo.specs.Geo.{primeVertical};
 ghost use Rattle.geo.specs.NearOne.{BelowOne};
 use crate::A;

@@ -1,6 +1,6 @@
--- `geo::from_ecef` meets its contract. The loop's invariant: after k rounds lat and height are those of `roundsTo`, and lat is the arc tangent of z / x. Where a round hands x back, `settled` has the
+-- `geo::from_ecef` meets its contract. The loop's invariant: after k rounds height and x are those of `roundsTo`, and lat is the arc tangent of z / x. Where a round hands x back, `settled` has the
 -- rounds that are left. Assumes nothing.
-use mathlib.Core.Path.{_≡_, refl}
+use mathlib.Core.Path.{_≡_}
 use Prim.Native.Nat.{_-_, _≤_}
 use native.Mathlib.Omega.{arith}
 use native.Mathlib.Numerals.{add-one}
@@ -9,14 +9,14 @@ use lib.ListN.{getD}
 use lib.Ieee.{nan}
 use borrow.Author.Needs.{needs}
 use Rattle.libm.specs.Atan.{atan2}
-use Rattle.geo.specs.Geo.{roundFrom, roundsTo, fromEcef}
+use Rattle.geo.specs.Geo.{roundsTo, fromEcef}
 use Rattle.geo.proofs.Constants.{eccentricity}
-use Rattle.geo.proofs.Rounds.{made, settled}
+use Rattle.geo.proofs.Rounds.{all, settled}
 use Rattle.geo.proofs.from_ecef.Statement.{statement}
 use Rattle.geo.proofs.from_ecef.Tie as tie
 
 abbrev Inv-loop : tie.InvT-loop
-Inv-loop z lon p x₀ lat₀ height₀ k₀ x lat height k = (k ≤ 6) × (lat ≡ roundsTo p z k .lat) × (height ≡ roundsTo p z k .height) × (lat ≡ atan2 z x)
+Inv-loop z lon p x₀ lat₀ height₀ k₀ x lat height k = (k ≤ 6) × (roundsTo p z k ≡ record { height = height; x = x }) × (lat ≡ atan2 z x)
 
 abbrev μ-loop : tie.MeasureT-loop
 μ-loop z lon p x₀ lat₀ height₀ k₀ x lat height k = 6 - k
@@ -47,7 +47,7 @@ atan2-requires-2 c κs = search needs
 
 loop-holds : tie.Need-loop-holds Inv-loop μ-loop
 unfolding roundsTo
-loop-holds c = (search needs, rw (eccentricity, ← c .atan22 .ensures), refl, c .atan22 .ensures)
+loop-holds c = (search needs, rw eccentricity, c .atan22 .ensures)
 
 bowring-requires : tie.Need-bowring-requires Inv-loop μ-loop
 bowring-requires c κs = search needs
@@ -65,11 +65,11 @@ loop-less : tie.Need-loop-less Inv-loop μ-loop
 loop-less c = search needs
 
 loop-again : tie.Need-loop-again Inv-loop μ-loop
-unfolding roundsTo roundFrom
+unfolding roundsTo
 loop-again c =
     let turn = c .before .before .before in
     let inv = turn .before .before .loop .inv in
-    (omega arith, rw (add-one, ← inv .1, ← turn .bowring .ensures) (c .atan23 .ensures), rw (add-one, ← inv .1, ← turn .bowring .ensures), c .atan23 .ensures)
+    (omega arith, rw (add-one, inv .1, ← inv .2, ← turn .bowring .ensures), c .atan23 .ensures)
 
 to-degrees-requires : tie.Need-to-degrees-requires Inv-loop μ-loop
 to-degrees-requires c κs = search needs
@@ -78,12 +78,12 @@ to-degrees-requires-2 : tie.Need-to-degrees-requires-2 Inv-loop μ-loop
 to-degrees-requires-2 c κs = search needs
 
 -- where the loop is left
-last : (c : tie.Left-loop Inv-loop μ-loop) → roundsTo (c .before .before .before .hypot .result) (getD (c .before .before .before .before .before .args .t1) 2 nan) 6 ≡ record { lat = c .before .loop .lat; height = c .loop-test .height }
+last : (c : tie.Left-loop Inv-loop μ-loop) → roundsTo (c .before .before .before .hypot .result) (getD (c .before .before .before .before .before .args .t1) 2 nan) 6 ≡ record { height = c .loop-test .height; x = c .before .loop .x }
 last c =
     let inv = c .before .loop .inv in
     elim (c .loop-test .came) [
-      | inl w ↦ made _ _ _ _ _ (inv .1) _ (omega (arith, w .0 .left)) (inv .2) (w .1)
-      | inr w ↦ settled _ _ _ _ _ (inv .1) _ _ (w .0 .taken) (inv .3) (w .1 .ensures) (w .2 .ensures (w .3 .taken)) (w .4)
+      | inl w ↦ all _ _ _ _ _ _ (inv .1) (omega (arith, w .0 .left)) (w .1)
+      | inr w ↦ settled _ _ _ _ _ _ (inv .1) _ _ (w .0 .taken) (inv .2) (w .1 .ensures) (w .2 .ensures (w .3 .taken)) (w .4)
     ]
 
 returns : tie.Need-returns Inv-loop μ-loop
@@ -91,7 +91,7 @@ unfolding fromEcef
 returns c =
     let left = c .before .before in
     let start = left .before .before .before in
-    rw (← start .before .atan2 .ensures, ← start .hypot .ensures, last left, ← c .before .to-degrees .ensures, ← c .to-degrees2 .ensures)
+    rw (← start .before .atan2 .ensures, ← start .hypot .ensures, last left, ← left .before .loop .inv .2, ← c .before .to-degrees .ensures, ← c .to-degrees2 .ensures)
 
 pub from-ecef-spec : {M : Type 1} → statement M
 from-ecef-spec =

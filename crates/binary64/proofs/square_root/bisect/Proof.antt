@@ -4,20 +4,20 @@ use Prim.Native.Nat.{ℕ, _+_, _-_, _*_, _/_, _^_, _≤_, _<_}
 use native.Mathlib.Nat.{le-div-iff-mul-le, div-lt-iff-lt-mul}
 use native.Mathlib.Omega.{arith}
 use lib.Pow.{pow-pos}
-use Rattle.binary64.specs.NearRoot.{Settled}
+use Rattle.binary64.specs.Root.{Nearest}
 use Rattle.binary64.proofs.Squares.{sq-suc}
 use Rattle.binary64.proofs.square_root.bisect.Statement.{statement}
 use Rattle.binary64.proofs.square_root.bisect.Tie as tie
 
-settled : (low high m : ℕ) → 2 ^ 52 - 1 ≤ low → low < high → high ≤ 2 ^ 53 → high - low ≤ 1 → m ≤ (high * high + high) / 2 ^ 52 → (low * low + low) / 2 ^ 52 < m → Settled m high
-settled low high m a b c d e f =
+nearest : (low high m : ℕ) → low < high → high - low ≤ 1 → m ≤ (high * high + high) / 2 ^ 52 → (low * low + low) / 2 ^ 52 < m → Nearest (m * 2 ^ 52) high
+nearest low high m b d e f =
     let x : low * low + low < m * 2 ^ 52 = div-lt-iff-lt-mul (pow-pos 52) .0 f in
     let one : low + 1 ≡ high = omega arith in
     let sq : (low + 1) * (low + 1) ≡ high * high = ap (λ (y : ℕ). y * y) one in
-    record { least = omega arith; most = c; near = (omega (arith, sq-suc low), le-div-iff-mul-le (pow-pos 52) .0 e) }
+    (omega (arith, sq-suc low), le-div-iff-mul-le (pow-pos 52) .0 e)
 
 abbrev Inv-loop : tie.InvT-loop
-Inv-loop m low₀ high₀ low high = (2 ^ 52 - 1 ≤ low) × (low < high) × (high ≤ 2 ^ 53) × (m ≤ (high * high + high) / 2 ^ 52) × ((low * low + low) / 2 ^ 52 < m)
+Inv-loop m low₀ high₀ low high = (low < high) × (high ≤ 2 ^ 53) × (m ≤ (high * high + high) / 2 ^ 52) × ((low * low + low) / 2 ^ 52 < m)
 
 abbrev μ-loop : tie.MeasureT-loop
 μ-loop m low₀ high₀ low high = high - low
@@ -47,7 +47,7 @@ loop-again-2 : tie.Need-loop-again-2 Inv-loop μ-loop
 loop-again-2 c = omega arith
 
 returns : tie.Need-returns Inv-loop μ-loop
-returns c = let l = c .before .loop in settled (l .low) (l .high) _ (l .inv .0) (l .inv .1) (l .inv .2) (c .loop-test .left) (l .inv .3) (l .inv .4)
+returns c = let l = c .before .loop in nearest (l .low) (l .high) _ (l .inv .0) (c .loop-test .left) (l .inv .2) (l .inv .3)
 
 pub bisect-spec : {M : Type 1} → statement M
 bisect-spec =

@@ -7,7 +7,7 @@ use native.Mathlib.Omega.{arith}
 use lib.Pow.{pow-pos}
 use lib.Bits.{bitAnd}
 use borrow.Author.Needs.{needs}
-use Rattle.binary64.specs.NearRoot.{Settled}
+use Rattle.binary64.specs.Root.{Nearest}
 use Rattle.binary64.proofs.Fold.{small, fold-law}
 use Rattle.binary64.proofs.square_root.near.Statement.{statement}
 use Rattle.binary64.proofs.square_root.near.Tie as tie
@@ -16,11 +16,11 @@ use Rattle.binary64.proofs.square_root.near.Tie as tie
 abbrev fold : ℕ → ℕ → ℕ
 fold r c = let a = r / 2 ^ 26 in let b = bitAnd r 0x3ff_ffff in a * a + (2 * a * b + (b * b + c) / 2 ^ 26) / 2 ^ 26
 
-settled : (m r : ℕ) → 2 ^ 52 ≤ r → r ≤ 2 ^ 53 → m ≤ fold r r → fold r (0x40_0000_0000_0000 - r) < m + 4 → Settled m r
-settled m r lo hi a b =
+nearest : (m r : ℕ) → r ≤ 2 ^ 53 → m ≤ fold r r → fold r (0x40_0000_0000_0000 - r) < m + 4 → Nearest (m * 2 ^ 52) r
+nearest m r hi a b =
     let low : r * r + (0x40_0000_0000_0000 - r) < (m + 4) * 2 ^ 52 = div-lt-iff-lt-mul (pow-pos 52) .0 (subst (λ (x : ℕ). x < m + 4) (fold-law r (0x40_0000_0000_0000 - r)) b) in
     let high : m * 2 ^ 52 ≤ r * r + r = le-div-iff-mul-le (pow-pos 52) .0 (subst (λ (x : ℕ). m ≤ x) (fold-law r r) a) in
-    record { least = lo; most = hi; near = (omega arith, high) }
+    (omega arith, high)
 
 mul-aa : tie.Need-mul-aa
 mul-aa c = let s = small (c .args .r) (c .pre .2) in record { fits = omega arith }
@@ -59,7 +59,7 @@ add-if2-4 : tie.Need-add-if2-4
 add-if2-4 c = search needs
 
 returns : tie.Need-returns
-returns c = λ t. let p = c .before .before .pre in settled _ _ (p .1) (p .2) (c .before .if1 .taken) (c .if2 .taken)
+returns c = λ t. nearest _ _ (c .before .before .pre .2) (c .before .if1 .taken) (c .if2 .taken)
 
 returns-2 : tie.Need-returns-2
 returns-2 c = λ t. absurd (false≢true t)

@@ -3,7 +3,7 @@ use mathlib.Core.Path.{_≡_, subst}
 use Prim.Native.Nat.{ℕ, _*_, _%_, _^_, _≤_, _<_}
 use native.Mathlib.Omega.{arith}
 use borrow.Author.Needs.{needs}
-use Rattle.binary64.specs.NearRoot.{Settled}
+use Rattle.binary64.specs.Root.{Nearest}
 use Rattle.binary64.proofs.Shift.{shifted, range}
 use Rattle.binary64.proofs.square_root.settle.Statement.{statement}
 use Rattle.binary64.proofs.square_root.settle.Tie as tie
@@ -25,13 +25,13 @@ near-requires : tie.Need-near-requires
 near-requires c κs = omega (arith, moved (c .before), inside (c .before))
 
 returns : tie.Need-returns
-returns c = subst (λ (x : ℕ). Settled x (c .before .before .guess .result)) (moved (c .before .before .before)) (c .before .near .ensures (c .if1 .taken))
+returns c = subst (λ (x : ℕ). Nearest (x * 2 ^ 52) (c .before .before .guess .result)) (moved (c .before .before .before)) (c .before .near .ensures (c .if1 .taken))
 
 bisect-requires : tie.Need-bisect-requires
 bisect-requires c κs = omega (arith, moved (c .before .before .before), inside (c .before .before .before))
 
 returns-2 : tie.Need-returns-2
-returns-2 c = subst (λ (x : ℕ). Settled x (c .bisect .result)) (moved (c .before .before .before .before)) (c .bisect .ensures)
+returns-2 c = subst (λ (x : ℕ). Nearest (x * 2 ^ 52) (c .bisect .result)) (moved (c .before .before .before .before)) (c .bisect .ensures)
 
 pub settle-spec : {M : Type 1} → statement M
 settle-spec =

@@ -13,7 +13,7 @@ use Rattle.geo.proofs.curvature.below_one.Tie as tie
 counted : (x : Float) (b : ℕ) → 0x3fe0_0000_0000_0000 ≤ b → b < 0x3ff0_0000_0000_0000 → # b ≡ x → BelowOne x (b - 0x3fd0_0000_0000_0000)
 counted x b lo hi e =
     let whole : b ≡ 1021 * 2 ^ 52 + (b - 0x3fd0_0000_0000_0000) = omega arith in
-    record { least = omega arith; most = omega arith; bits = sym e ∙ ap # whole }
+    (omega arith, omega arith, sym e ∙ ap # whole)
 
 none : (x : Float) → 0 < 0 → BelowOne x 0
 none x h = absurd (omega arith)

@@ -11,7 +11,7 @@ below-one-requires-2 : tie.Need-below-one-requires-2
 below-one-requires-2 c κs = search needs
 
 nearest-requires : tie.Need-nearest-requires
-nearest-requires c κs = (c .before .before .before .below-one .ensures (c .before .if1 .taken) .most, c .before .before .below-one2 .ensures (c .if2 .taken) .most)
+nearest-requires c κs = (c .before .before .before .below-one .ensures (c .before .if1 .taken) .1, c .before .before .below-one2 .ensures (c .if2 .taken) .1)
 
 returns : tie.Need-returns
 returns c =
