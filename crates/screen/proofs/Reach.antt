@@ -14,11 +14,7 @@ use Rattle.wide.specs.declared.Wide.{Wide}
 use Rattle.wide.specs.Wide.{valueOf, wideOf}
 use Rattle.wide.proofs.Words.{value-wide}
 use Rattle.wide.proofs.Floor.{greatest-root}
-use Rattle.screen.specs.Pair.{BaselineIsGreatest, apart, gap, baseline, squared, passes, timeAt, siteAt, clash}
-
-pub baseline-is-greatest : BaselineIsGreatest
-unfolding baseline
-baseline-is-greatest a b = greatest-root (squared a b)
+use Rattle.screen.specs.Pair.{gap, baseline, squared, passes, timeAt, siteAt, clash}
 
 -- ---- the gap's side
 
@@ -73,7 +69,7 @@ module _ (t x y z : ℕ) (s : t < 2 ^ 63) (lx : x < t) (ly : y < t) (lz : z < t)
 -- ---- a pair, as the code tests it
 module _ (times sites : List ℤ) (i j : ℕ) where
   pub clash-is : (least : ℕ) {g x y z : ℕ} {r : Bool} → g ≡ gap (timeAt times i) (timeAt times j)
-      → x ≡ apart (siteAt sites i .x) (siteAt sites j .x) → y ≡ apart (siteAt sites i .y) (siteAt sites j .y) → z ≡ apart (siteAt sites i .z) (siteAt sites j .z)
+      → x ≡ gap (siteAt sites i .x) (siteAt sites j .x) → y ≡ gap (siteAt sites i .y) (siteAt sites j .y) → z ≡ gap (siteAt sites i .z) (siteAt sites j .z)
       → ((b : ℕ) → passes g b ≡ leb least b) → r ≡ leb least (floorRoot (x * x + y * y + z * z)) → not r ≡ clash times sites i j
   unfolding clash baseline
   clash-is least {x = x} {y = y} {z = z} eg ex ey ez from e =

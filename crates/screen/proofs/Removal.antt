@@ -1,7 +1,7 @@
 -- The computation removes what document 01's sentence says, until no pair fails, and the sentence leaves nothing else. Assumes nothing.
 use mathlib.Core.Path.{_≡_, refl, subst}
 use mathlib.Core.Logic.{_⊎_, inl, inr}
-use mathlib.Core.Option.{Option, none, some}
+use mathlib.Core.Option.{Option, none, some, Option·elim}
 use mathlib.Core.Bool.{Bool, true, not, _&&_}
 use mathlib.Core.List.{List}
 use Prim.Native.Nat.{ℕ, zero, suc, _+_, _≤_, _<_}
@@ -15,8 +15,15 @@ use Rattle.sets.proofs.Belonging.{in-without}
 use Rattle.sets.proofs.Counting.{count-le, count-pos, count-some, count-without}
 use Rattle.sets.proofs.Choosing.{choose-is}
 use Rattle.screen.specs.Pair.{gap, baseline, passes, timeAt, siteAt, clash, fails}
-use Rattle.screen.specs.Screen.{clashes, clashing, more, goes, removed, aliveTo, kept}
-use Rattle.screen.specs.Meaning.{Goes, Clear, Leaves, done, then, KeptIsLeft, OnlyKeptIsLeft, KeptPass}
+use Rattle.screen.specs.Screen.{clashes, goes, aliveTo, kept}
+use Rattle.screen.specs.Meaning.{Goes, Clear, Leaves, done, then, OnlyKeptIsLeft, KeptPass}
+
+-- i is in A, and in a failing pair there; and i is in more of them than j
+abbrev pub clashing : ℕ → (ℕ → ℕ → Bool) → Subset → ℕ → Bool
+clashing n fails A i = A i && ltb 0 (clashes n fails A i)
+
+abbrev pub more : ℕ → (ℕ → ℕ → Bool) → Subset → ℕ → ℕ → Bool
+more n fails A i j = ltb (clashes n fails A j) (clashes n fails A i)
 
 module _ (n : ℕ) (fails : ℕ → ℕ → Bool) where
   abbrev pub Within : Subset → Type 0
@@ -100,7 +107,7 @@ module _ (n : ℕ) (fails : ℕ → ℕ → Bool) where
   Fewer k A = (count A n + k ≤ n) ⊎ Clear n fails A
 
   turns : (k : ℕ) → Within (aliveTo n fails k) × Reached (aliveTo n fails k) × Fewer k (aliveTo n fails k)
-  unfolding aliveTo
+  unfolding aliveTo Option·elim
   turns zero = ((λ j t. ltb→lt j n t), (λ K l. l), inl (omega (arith, count-le (first n) n)))
   turns (suc k) = let h = turns k in go (aliveTo n fails k) (goes n fails (aliveTo n fails k)) refl (h .0) (h .1) (h .2)
     where
@@ -108,7 +115,7 @@ module _ (n : ℕ) (fails : ℕ → ℕ → Bool) where
       fewer A i w g (inl c) = inl (omega (arith, count-without A n i (w i (g .here)) (g .here)))
       fewer A i w g (inr c) = absurd (clear-stays A i c g)
 
-      go : (A : Subset) (o : Option ℕ) → goes n fails A ≡ o → Within A → Reached A → Fewer k A → Within (removed A o) × Reached (removed A o) × Fewer (suc k) (removed A o)
+      go : (A : Subset) (o : Option ℕ) → goes n fails A ≡ o → Within A → Reached A → Fewer k A → let B = Option·elim o A (without A) in Within B × Reached B × Fewer (suc k) B
       go A none e w r f = (w, r, inr (goes-none A w e))
       go A (some i) e w r f =
           let g = goes-some A w i e in
@@ -153,11 +160,8 @@ module _ (n : ℕ) (fails : ℕ → ℕ → Bool) where
   kept-clear = left-clear left
 
 -- ---- the statements
-pub kept-is-left : KeptIsLeft
-kept-is-left n fails = left n fails
-
 pub only-kept-is-left : OnlyKeptIsLeft
-only-kept-is-left n fails K l = one-left n fails l (left n fails)
+only-kept-is-left n fails K = ((λ l. one-left n fails l (left n fails)), (λ e. rw e (left n fails)))
 
 not-clash : (times sites : List ℤ) (n i j : ℕ) → i < n → j < n → T (not (fails times sites n i j)) → T (not (clash times sites i j))
 unfolding fails

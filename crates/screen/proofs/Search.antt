@@ -18,9 +18,9 @@ use Rattle.sets.proofs.Counting.{count-same, count-without}
 use Rattle.sets.proofs.Digits.{has-and, has-below}
 use Rattle.sets.proofs.Masks.{count-within}
 use Rattle.sets.proofs.Choosing.{chosen-none, chosen-some, skips, begins, takes, leaves}
-use Rattle.screen.specs.Screen.{clashes, clashing, more, goes, kept, pairsOf}
+use Rattle.screen.specs.Screen.{clashes, goes, kept, pairsOf}
 use Rattle.screen.specs.Meaning.{Goes, done, then}
-use Rattle.screen.proofs.Removal.{Within, Reached, goes-none, goes-some, only-kept-is-left}
+use Rattle.screen.proofs.Removal.{clashing, more, Within, Reached, goes-none, goes-some, only-kept-is-left}
 
 module _ (rows : List ℕ) (alive n : ℕ) where
   -- the failing pairs of a row that are with those of `alive`
@@ -104,4 +104,4 @@ module _ (n : ℕ) (fails : ℕ → ℕ → Bool) (alive w : ℕ) (s : n ≤ 32)
   pub removal-ends : 32 ≤ w → has alive ≡ kept n fails
   unfolding goes
   removal-ends l =
-      only-kept-is-left n fails (has alive) (r (has alive) (done (goes-none n fails (has alive) within (chosen-none (clashing n fails (has alive)) (more n fails (has alive)) n w s e l))))
+      only-kept-is-left n fails (has alive) .0 (r (has alive) (done (goes-none n fails (has alive) within (chosen-none (clashing n fails (has alive)) (more n fails (has alive)) n w s e l))))

@@ -7,30 +7,30 @@ use native.Mathlib.Omega.{arith}
 use lib.IntN.{ℤ, pos, negsuc, natAbs, negℤ, _+ℤ_, _-ℤ_, negℤ-+ℤ, negℤ-negℤ, +ℤ-comm, +ℤ-invr}
 use borrow.Author.Tests.{le-leb}
 use Rattle.binary64.specs.Root.{floorRoot}
-use Rattle.screen.specs.Pair.{Site, apart, gap, squared, baseline, passes, timeAt, siteAt, clash}
+use Rattle.screen.specs.Pair.{Site, gap, squared, baseline, passes, timeAt, siteAt, clash}
 
 size-neg : (a : ℤ) → natAbs (negℤ a) ≡ natAbs a
 size-neg (pos zero) = refl
 size-neg (pos (suc n)) = refl
 size-neg (negsuc n) = refl
 
-apart-sym : (a b : ℤ) → apart a b ≡ apart b a
-apart-sym a b = sym (size-neg (a -ℤ b)) ∙ ap natAbs (negℤ-+ℤ a (negℤ b) ∙ ap (λ (x : ℤ). negℤ a +ℤ x) (negℤ-negℤ b) ∙ +ℤ-comm (negℤ a) b)
+gap-sym : (a b : ℤ) → gap a b ≡ gap b a
+gap-sym a b = sym (size-neg (a -ℤ b)) ∙ ap natAbs (negℤ-+ℤ a (negℤ b) ∙ ap (λ (x : ℤ). negℤ a +ℤ x) (negℤ-negℤ b) ∙ +ℤ-comm (negℤ a) b)
 
-apart-self : (a : ℤ) → apart a a ≡ 0
-apart-self a = ap natAbs (+ℤ-invr a)
+gap-self : (a : ℤ) → gap a a ≡ 0
+gap-self a = ap natAbs (+ℤ-invr a)
 
 squared-sym : (a b : Site) → squared a b ≡ squared b a
-squared-sym a b = rw (apart-sym (a .x) (b .x), apart-sym (a .y) (b .y), apart-sym (a .z) (b .z)) refl
+squared-sym a b = rw (gap-sym (a .x) (b .x), gap-sym (a .y) (b .y), gap-sym (a .z) (b .z)) refl
 
 module _ (times sites : List ℤ) where
   pub clash-sym : (i j : ℕ) → clash times sites i j ≡ clash times sites j i
   unfolding clash baseline
-  clash-sym i j = ap₂ (λ (g s : ℕ). not (passes g (floorRoot s))) (apart-sym (timeAt times i) (timeAt times j)) (squared-sym (siteAt sites i) (siteAt sites j))
+  clash-sym i j = ap₂ (λ (g s : ℕ). not (passes g (floorRoot s))) (gap-sym (timeAt times i) (timeAt times j)) (squared-sym (siteAt sites i) (siteAt sites j))
 
   pub clash-self : (i : ℕ) → clash times sites i i ≡ false
   unfolding clash passes
   clash-self i =
       let b = baseline (siteAt sites i) (siteAt sites i) in
-      let e : gap (timeAt times i) (timeAt times i) ≡ 0 = apart-self (timeAt times i) in
+      let e : gap (timeAt times i) (timeAt times i) ≡ 0 = gap-self (timeAt times i) in
       ap not (le-leb (gap (timeAt times i) (timeAt times i) * 299_792_458) ((b + 1_000_000) * 10 ^ 9) (omega arith))

@@ -1,5 +1,6 @@
 -- What `kept` means, in words that know nothing of its computation. Statements only: proofs/Removal.antt proves each.
 use mathlib.Core.Path.{_≡_}
+use mathlib.Core.Logic.{_↔_}
 use mathlib.Core.Bool.{Bool, not}
 use mathlib.Core.List.{List}
 use Prim.Native.Nat.{ℕ, _≤_, _<_}
@@ -26,13 +27,9 @@ module _ (n : ℕ) (fails : ℕ → ℕ → Bool) where
     done : Clear K → Leaves K K
     then : {A : Subset} (i : ℕ) → Goes A i → Leaves K (without A i) → Leaves K A
 
--- document 01's sentence leaves those kept, whatever fails
-abbrev pub KeptIsLeft : Type 0
-KeptIsLeft = (n : ℕ) (fails : ℕ → ℕ → Bool) → Leaves n fails (kept n fails) (first n)
-
--- and nothing else
+-- document 01's sentence leaves those kept, whatever fails, and nothing else
 abbrev pub OnlyKeptIsLeft : Type 0
-OnlyKeptIsLeft = (n : ℕ) (fails : ℕ → ℕ → Bool) (K : Subset) → Leaves n fails K (first n) → K ≡ kept n fails
+OnlyKeptIsLeft = (n : ℕ) (fails : ℕ → ℕ → Bool) (K : Subset) → Leaves n fails K (first n) ↔ (K ≡ kept n fails)
 
 -- of the receptions of a solve each two kept ones pass
 abbrev pub KeptPass : Type 0

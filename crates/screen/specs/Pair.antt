@@ -1,5 +1,5 @@
 -- The pair test of document 01's screen, in whole numbers of any size: "gap × 299,792,458 ≤ (baseline + 1,000,000) × 10^9, baseline the floored root".
--- Definitions and one statement, which proofs/Reach.antt proves.
+-- Definitions only.
 use mathlib.Core.Bool.{Bool, not, _&&_}
 use mathlib.Core.List.{List}
 use Prim.Native.Nat.{ℕ, _+_, _*_, _^_}
@@ -7,15 +7,10 @@ use lib.Dec.{leb, ltb}
 use lib.ListN.{getD}
 use lib.IntN.{ℤ, pos, natAbs, _-ℤ_}
 use Rattle.binary64.specs.Root.{floorRoot}
-use Rattle.wide.specs.Root.{GreatestRoot}
 
--- how far two numbers are apart
-abbrev pub apart : ℤ → ℤ → ℕ
-apart a b = natAbs (a -ℤ b)
-
--- the picoseconds between two times
+-- how far two numbers are apart: the picoseconds between two times, or the millimetres between two coordinates
 abbrev pub gap : ℤ → ℤ → ℕ
-gap s t = apart s t
+gap s t = natAbs (s -ℤ t)
 
 abbrev pub square : ℕ → ℕ
 square d = d * d
@@ -28,16 +23,12 @@ pub record Site : Type 0 where
 
 -- `squared` of solve.rs: the squares of the differences of two sites along the three axes, summed
 abbrev pub squared : Site → Site → ℕ
-squared a b = square (apart (a .x) (b .x)) + square (apart (a .y) (b .y)) + square (apart (a .z) (b .z))
+squared a b = square (gap (a .x) (b .x)) + square (gap (a .y) (b .y)) + square (gap (a .z) (b .z))
 
--- the millimetres between two sites: the floored root of that sum
+-- the millimetres between two sites: the floored root of that sum, which is the greatest whole number whose square is not above it (`FloorRootIsGreatest` of wide)
 unfoldable pub baseline : Site → Site → ℕ
 unfolding floorRoot
 baseline a b = floorRoot (squared a b)
-
--- which is the greatest whole number whose square is not above the sum
-abbrev pub BaselineIsGreatest : Type 0
-BaselineIsGreatest = (a b : Site) → GreatestRoot (squared a b) (baseline a b)
 
 -- whether a pair with the gap g and the baseline b passes
 unfoldable pub passes : ℕ → ℕ → Bool

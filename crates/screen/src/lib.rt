@@ -55,7 +55,7 @@ fn reaches(x: u64, y: u64, z: u64, least: u64) -> bool
 // How far two of the values are apart.
 fn apart(values: &[i64], a: usize, b: usize) -> u64
     requires { ⌜ (a < length (now values)) × (b < length (now values)) ⌝ }
-    ensures { λ r. ⌜ r ≡ pair.apart (getD (now (values .entry)) a (pos 0)) (getD (now (values .entry)) b (pos 0)) ⌝ }
+    ensures { λ r. ⌜ r ≡ pair.gap (getD (now (values .entry)) a (pos 0)) (getD (now (values .entry)) b (pos 0)) ⌝ }
 {
     wide::abs_diff(values[a], values[b])
 }
