@@ -36,15 +36,13 @@ pub fn round(x: f64) -> f64
         return x;
     }
     let bits = f64::to_bits(x);
-    if bits < SIGN {
-        if bits >= WHOLE {
-            return x;
-        }
-        return whole(bits) as f64;
-    }
-    let rest = bits - SIGN;
+    let rest = bits % SIGN;
     if rest >= WHOLE {
         return x;
     }
-    -(whole(rest) as f64)
+    let q = whole(rest) as f64;
+    if bits < SIGN {
+        return q;
+    }
+    -q
 }
