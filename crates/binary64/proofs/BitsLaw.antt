@@ -63,15 +63,18 @@ written-law r h lo hi = elim (eq-or-lt-of-le hi) [
     carry : (h r : ℕ) → r ≡ 2 ^ 53 → suc h * 2 ^ 52 + 2 ^ 52 ≡ h * 2 ^ 52 + r
     carry h r e = omega arith
 
+-- the format reaches so far
+pub in-reach : (r h : ℕ) → r ≤ 2 ^ 53 → h ≤ 2000 → r * 2 ^ h < 2 ^ 2098
+in-reach r h hi l = lt-of-le-of-lt (mul-le-mul-right (2 ^ h) hi) (lt-of-le-of-lt (le-of-eq (sym (pow-add 2 53 h))) (pow-lt (room h l)))
+  where
+    room : (h : ℕ) → h ≤ 2000 → 53 + h < 2098
+    room h l = omega arith
+
 pub bits-law : (r h : ℕ) → 2 ^ 52 ≤ r → r ≤ 2 ^ 53 → h ≤ 2000 → ofBits binary64 (h * 2 ^ 52 + r) ≡ units binary64 false r h
 bits-law r h lo hi l =
-    let small : r * 2 ^ h < 2 ^ 2098 =
-    lt-of-le-of-lt (mul-le-mul-right (2 ^ h) hi) (lt-of-le-of-lt (le-of-eq (sym (pow-add 2 53 h))) (pow-lt (room h l))) in
+    let small = in-reach r h hi l in
     let v = odd 54 false r h 1074 in
     let f : T (fits binary64 v) = odd-fits binary64 54 false r h (lt-of-le-of-lt hi (lit< tt)) hi small in
     ap (ofBits binary64) (sym (toBits-value v (r * 2 ^ h) (odd-sign 54 false r h 1074) ∙ written-law r h lo hi))
     ∙ ofBits-toBits binary64 v f
     ∙ sym (units-odd r h small)
-  where
-    room : (h : ℕ) → h ≤ 2000 → 53 + h < 2098
-    room h l = omega arith

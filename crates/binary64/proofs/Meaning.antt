@@ -7,7 +7,7 @@ use Prim.Native.Nat.{ℕ, zero, suc, _+_, _-_, _*_, _/_, _%_, _^_, _≤_, _<_, z
 use native.Mathlib.Nat.{le-trans, le-of-eq, le-antisymm, lt-of-lt-of-le, lt-of-le-of-lt, lt-of-not-le, not-le-of-lt, zero-lt-suc, zero-mul, one-mul, mul-one, mul-assoc, mul-pos, mul-le-mul, mul-le-mul-right, mod-lt, div-add-mod'}
 use native.Mathlib.Omega.{arith}
 use mathlib.Core.Bool.{Bool, true, false, false≢true}
-use lib.Pow.{pow-add, pow-pos, pow-mono, pow-lt, shl-lt}
+use lib.Pow.{pow-add, pow-pos, pow-mono, shl-lt}
 use lib.Ieee.{Float, nan, inf, fin, binary64, down, units, round}
 use lib.Ieee.Fits.{up-pos, round-fits}
 use lib.Ieee.Exact.{HasValue, units-val, round-exact}
@@ -18,7 +18,7 @@ use Rattle.binary64.specs.Root.{root, rootUnits, Nearest}
 use Rattle.binary64.specs.Rounding.{halfAway}
 use Rattle.binary64.specs.Meaning.{IsBinary64, HasUnits, FiniteHasUnits, Nearer, NearestRoot, RootIsNearest, RootElsewhere, RoundedHalfAway, RoundsHalfAway, OthersPassThrough}
 use Rattle.binary64.proofs.RootLaw.{root-law}
-use Rattle.binary64.proofs.BitsLaw.{bits-law}
+use Rattle.binary64.proofs.BitsLaw.{bits-law, in-reach}
 use Rattle.binary64.proofs.Decode.{root-value, root-negative}
 use Rattle.binary64.proofs.HalfLaw.{half-value}
 use Rattle.binary64.proofs.Nearer.{either, coarse, nearer-above, nearer-below}
@@ -57,7 +57,7 @@ nearest-root a k p =
     record {
       binary = subst IsBinary64 (bits-law r h lo hi (c .few) ∙ sym e) (ofBits-fits binary64 (h * 2 ^ 52 + r));
       r = r * 2 ^ h;
-      value = subst (λ (v : Float). HasUnits v false (r * 2 ^ h)) (sym e) (units-val binary64 false r h (small r h hi (c .few)));
+      value = subst (λ (v : Float). HasUnits v false (r * 2 ^ h)) (sym e) (units-val binary64 false r h (in-reach r h hi (c .few)));
       nearest = λ y s b f v. subst (λ (x : ℕ). Nearer x (r * 2 ^ h) s b) (sym is) (every-other w h r (near .1) lo (c .lo) s b (is-held y s b f v));
     }
   where
@@ -66,12 +66,6 @@ nearest-root a k p =
 
     short : k .j < 2098
     short = lt-of-not-le (λ (g : 2098 ≤ k .j). not-le-of-lt (k .below) (le-trans (pow-mono g) (le-trans (le-of-eq (sym (one-mul (2 ^ k .j)))) (le-trans (mul-le-mul-right (2 ^ k .j) some) (le-of-eq (sym (k .is)))))))
-
-    small : (r h : ℕ) → r ≤ 2 ^ 53 → h ≤ 2000 → r * 2 ^ h < 2 ^ 2098
-    small r h a b = lt-of-le-of-lt (mul-le-mul-right (2 ^ h) a) (lt-of-le-of-lt (le-of-eq (sym (pow-add 2 53 h))) (pow-lt (room h b)))
-      where
-        room : (h : ℕ) → h ≤ 2000 → 53 + h < 2098
-        room h l = omega arith
 
 one-size : (n r t : ℕ) → Nearer n r false t → Nearer n t false r → r ≡ t
 one-size n r t f g = le-antisymm (not-over t r g f) (not-over r t f g)

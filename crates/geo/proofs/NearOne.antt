@@ -14,7 +14,7 @@ use Rattle.binary64.proofs.Decode.{clear, fields-mid, root-value}
 use Rattle.binary64.proofs.RootLaw.{root-law}
 use Rattle.wide.specs.Wide.{valueOf, wideOf}
 use Rattle.wide.specs.declared.Wide.{Wide}
-use Rattle.wide.proofs.Words.{value-wide, within, above}
+use Rattle.wide.proofs.Words.{value-of, within, above}
 use Rattle.geo.specs.NearOne.{BelowOne}
 
 -- h * h taken out
@@ -45,15 +45,12 @@ root-below-one u s m r bu bs near =
 
 -- ---- two words
 
-value : {w : Wide} {n : ℕ} → w ≡ wideOf n → valueOf w ≡ n
-value {w} {n} e = ap valueOf e ∙ value-wide n
-
 pub square-fits : (r : ℕ) → r < 2 ^ 53 → r * r < 2 ^ 106
 square-fits r h = let l : r * r ≤ r * 2 ^ 53 = mul-le-mul-left r (le-of-lt h) in omega arith
 
 -- they hold the sum of a number and its root
 pub room : {w : Wide} {n : ℕ} (r : ℕ) → w ≡ wideOf n → n < 2 ^ 106 → r < 2 ^ 53 → valueOf w + (0 * 2 ^ 64 + r) < 2 ^ 128
-room {w} {n} r e h k = lt-of-lt-of-le (sum (valueOf w) n r (value e) h k) (lit≤ tt)
+room {w} {n} r e h k = lt-of-lt-of-le (sum (valueOf w) n r (value-of e) h k) (lit≤ tt)
   where
     sum : (v n r : ℕ) → v ≡ n → n < 2 ^ 106 → r < 2 ^ 53 → v + (0 * 2 ^ 64 + r) < 2 ^ 107
     sum v n r e h k = omega arith
@@ -65,7 +62,7 @@ pub between : {square number upper over : Wide} {a b : Bool} (n r : ℕ) → squ
 between {square} {number} {upper} {over} n r s m u l at-most o g not-at-most =
     let high : n ≤ valueOf upper = within upper n m l at-most in
     let low : valueOf square < valueOf number + (0 * 2 ^ 64 + r) = above square (valueOf number + (0 * 2 ^ 64 + r)) o g not-at-most in
-    let vs : valueOf square ≡ r * r = value s in
-    let vm : valueOf number ≡ n = value m in
-    let vu : valueOf upper ≡ valueOf square + (0 * 2 ^ 64 + r) = value u in
+    let vs : valueOf square ≡ r * r = value-of s in
+    let vm : valueOf number ≡ n = value-of m in
+    let vu : valueOf upper ≡ valueOf square + (0 * 2 ^ 64 + r) = value-of u in
     (omega arith, omega arith)

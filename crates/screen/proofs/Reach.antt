@@ -10,9 +10,6 @@ use lib.IntN.{ℤ}
 use borrow.Author.Tests.{le-leb}
 use Rattle.binary64.specs.Root.{floorRoot}
 use Rattle.sets.proofs.Tests.{same-T}
-use Rattle.wide.specs.declared.Wide.{Wide}
-use Rattle.wide.specs.Wide.{valueOf, wideOf}
-use Rattle.wide.proofs.Words.{value-wide}
 use Rattle.wide.proofs.Floor.{greatest-root}
 use Rattle.screen.specs.Pair.{gap, baseline, squared, passes, timeAt, siteAt, clash}
 
@@ -48,9 +45,6 @@ root-reaches t n =
 -- one axis alone may
 pub axis-reaches : (t x n : ℕ) → t ≤ x → x * x ≤ n → true ≡ leb t (floorRoot n)
 axis-reaches t x n l h = sym (le-leb t (floorRoot n) (le-trans l (greatest-root n .greatest x h)))
-
-pub value-of : {w : Wide} (n : ℕ) → w ≡ wideOf n → valueOf w ≡ n
-value-of n e = ap valueOf e ∙ value-wide n
 
 -- where none does, the three squares fit two words
 module _ (t x y z : ℕ) (s : t < 2 ^ 63) (lx : x < t) (ly : y < t) (lz : z < t) where

@@ -2,4 +2,3 @@ pub mod Words
 pub mod Digits
 pub mod Distance
 pub mod Floor
-pub mod Edges

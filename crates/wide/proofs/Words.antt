@@ -1,10 +1,10 @@
 -- Two words and the number that they stand for. Assumes nothing.
-use mathlib.Core.Path.{_≡_, refl, sym, _∙_}
+use mathlib.Core.Path.{_≡_, refl, sym, ap, _∙_}
 use mathlib.Core.Bool.{Bool, true, false}
 use Prim.Native.Nat.{ℕ, suc, _+_, _*_, _/_, _%_, _^_, _≤_, _<_}
-use native.Mathlib.Nat.{lt-of-mul-lt-mul-right, lt-of-le-of-lt, lt-of-lt-of-le}
+use native.Mathlib.Nat.{lt-of-mul-lt-mul-right, lt-of-le-of-lt}
 use native.Mathlib.Omega.{arith}
-use lib.Dec.{leb, ltb, lit≤}
+use lib.Dec.{leb, ltb}
 use borrow.Author.Tests.{leb-true, leb-false, le-leb, lt-leb}
 use Rattle.wide.specs.declared.Wide.{Wide}
 use Rattle.wide.specs.Wide.{valueOf, wideOf}
@@ -18,13 +18,12 @@ words h l n e s =
 pub value-wide : (n : ℕ) → valueOf (wideOf n) ≡ n
 value-wide n = omega arith
 
+pub value-of : {w : Wide} {n : ℕ} → w ≡ wideOf n → valueOf w ≡ n
+value-of {n = n} e = ap valueOf e ∙ value-wide n
+
 -- the high word of a number below 2 ^ 128
 pub high-fits : (h n : ℕ) → h * 2 ^ 64 ≤ n → n < 2 ^ 128 → h < 2 ^ 64
 high-fits h n l s = lt-of-mul-lt-mul-right (2 ^ 64) (lt-of-le-of-lt l s)
-
--- for callers of `add`, whose bound is past what omega reads: a number that `isqrt` takes has room
-pub has-room : {n : ℕ} → n < 2 ^ 72 → n < 2 ^ 128
-has-room h = lt-of-lt-of-le h (lit≤ tt)
 
 -- two tests that go the same way
 same-test : (a b c d : ℕ) → (a ≤ b → c ≤ d) → (b < a → d < c) → leb a b ≡ leb c d

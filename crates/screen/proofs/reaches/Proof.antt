@@ -3,7 +3,8 @@ use mathlib.Core.Path.{_∙_}
 use Prim.Native.Nat.{_+_, _*_, _^_, _<_}
 use native.Mathlib.Omega.{arith}
 use borrow.Author.Needs.{needs}
-use Rattle.screen.proofs.Reach.{axis-reaches, root-reaches, value-of, squares-fit}
+use Rattle.wide.proofs.Words.{value-of}
+use Rattle.screen.proofs.Reach.{axis-reaches, root-reaches, squares-fit}
 use Rattle.screen.proofs.reaches.Statement.{statement}
 use Rattle.screen.proofs.reaches.Tie as tie
 
@@ -30,7 +31,7 @@ mul-requires-2 : tie.Need-mul-requires-2
 mul-requires-2 c κs = search needs
 
 add-requires : tie.Need-add-requires
-add-requires c κs = rw (value-of _ (c .before .mul .ensures), value-of _ (c .mul2 .ensures)) (short (c .before .before) .0)
+add-requires c κs = rw (value-of (c .before .mul .ensures), value-of (c .mul2 .ensures)) (short (c .before .before) .0)
 
 mul-requires-3 : tie.Need-mul-requires-3
 mul-requires-3 c κs = search needs
@@ -38,7 +39,7 @@ mul-requires-3 c κs = search needs
 add-requires-2 : tie.Need-add-requires-2
 add-requires-2 c κs =
     let x = c .before .before .before in
-    rw (value-of _ (c .before .add .ensures), value-of _ (x .mul .ensures), value-of _ (c .before .before .mul2 .ensures), value-of _ (c .mul3 .ensures)) (short (x .before) .1)
+    rw (value-of (c .before .add .ensures), value-of (x .mul .ensures), value-of (c .before .before .mul2 .ensures), value-of (c .mul3 .ensures)) (short (x .before) .1)
 
 mul-requires-4 : tie.Need-mul-requires-4
 mul-requires-4 c κs = search needs
@@ -55,7 +56,7 @@ returns-4 c =
     let y = pair .before in
     let x = y .before in
     c .le .ensures
-    ∙ rw (value-of _ (least .mul4 .ensures), value-of _ (sum .add2 .ensures), value-of _ (pair .add .ensures), value-of _ (x .mul .ensures), value-of _ (y .mul2 .ensures), value-of _ (z .mul3 .ensures))
+    ∙ rw (value-of (least .mul4 .ensures), value-of (sum .add2 .ensures), value-of (pair .add .ensures), value-of (x .mul .ensures), value-of (y .mul2 .ensures), value-of (z .mul3 .ensures))
     (root-reaches (x .before .before .before .before .args .least) _)
 
 pub reaches-spec : {M : Type 1} → statement M
