@@ -9,9 +9,11 @@ use Rattle.binary64.specs.Steps.{_⊕_, _⊖_, _⊗_, _⊘_, #, nought, one, ha
 use Rattle.libm.specs.Words.{high, negative, signed, switch}
 use Rattle.libm.specs.declared.atan.Arc.{Arc}
 
--- atanhi[] and atanlo[] of s_atan.c: the arc tangents of 0.5, 1, 1.5 and infinity, which are 4.63647609000806093515e-01, 7.85398163397448278999e-01,
--- 9.82793723247329054082e-01 and 1.57079632679489655800e+00, and what these lack: 2.26987774529616870924e-17, 3.06161699786838301793e-17,
--- 1.39033110312309984516e-17 and 6.12323399573676603587e-17
+-- atanhi[] and atanlo[] of s_atan.c, the arc tangents of 0.5, 1, 1.5 and infinity in two parts:
+--   4.63647609000806093515e-01 and 2.26987774529616870924e-17
+--   7.85398163397448278999e-01 and 3.06161699786838301793e-17
+--   9.82793723247329054082e-01 and 1.39033110312309984516e-17
+--   1.57079632679489655800e+00 and 6.12323399573676603587e-17
 abbrev pub atanhi : ℕ → Float
 atanhi id = getD (# 0x3FDDAC670561BB4F ∷ # 0x3FE921FB54442D18 ∷ # 0x3FEF730BD281F69B ∷ # 0x3FF921FB54442D18 ∷ []) id nan
 
@@ -59,7 +61,7 @@ atan x =
     (cond (ltb (high x) 0x3fdc0000) (cond (ltb (high x) 0x3e200000) x (x ⊖ x ⊗ series x))
     (signed x z))
 
--- the constants of e_atan2.c
+-- the constants of e_atan2.c: 1.0e-300, 1.5707963267948965580E+00, 3.1415926535897931160E+00 and 1.2246467991473531772E-16
 abbrev pub tiny : Float
 tiny = # 0x01A56E1FC2F8F359
 

@@ -1,8 +1,8 @@
 -- An angle less a multiple of pi/2: e_rem_pio2.c of fdlibm 5.3, for angles from pi/4 to 7. Definitions only.
 use Prim.Native.Nat.{ℕ, _-_, _/_, _^_}
 use mathlib.Core.Bool.{not, cond}
-use lib.IntN.{pos}
 use mathlib.Core.List.{[], _∷_}
+use lib.IntN.{pos}
 use lib.Dec.{leb, ltb, eqb}
 use lib.ListN.{getD}
 use lib.Ieee.{Float, nan, binary64, ofInt, toUnsigned}
@@ -11,9 +11,10 @@ use Rattle.libm.specs.Words.{high}
 use Rattle.libm.specs.declared.rem_pio2.Reduced.{Reduced}
 use Rattle.libm.specs.declared.rem_pio2.Rest.{Rest}
 
--- pio2_1, pio2_2 and pio2_3 of e_rem_pio2.c, three parts of pi / 2, of 33 binary digits each: 1.57079632673412561417e+00, 6.07710050630396597660e-11 and
--- 2.02226624871116645580e-21. pio2_1t, pio2_2t and pio2_3t, the rest of pi / 2 after each: 6.07710050650619224932e-11, 2.02226624879595063154e-21 and
--- 8.47842766036889956997e-32
+-- the constants of e_rem_pio2.c, of which each part of pi / 2 has 33 binary digits, and with a t is the rest of pi / 2 after it:
+--   pio2_1 1.57079632673412561417e+00 and pio2_1t 6.07710050650619224932e-11
+--   pio2_2 6.07710050630396597660e-11 and pio2_2t 2.02226624879595063154e-21
+--   pio2_3 2.02226624871116645580e-21 and pio2_3t 8.47842766036889956997e-32
 abbrev pub pio2 : ℕ → Float
 pio2 k = getD (# 0x3FF921FB54400000 ∷ # 0x3DD0B4611A600000 ∷ # 0x3BA3198A2E000000 ∷ []) (k - 1) nan
 
