@@ -63,12 +63,10 @@ impl Tally {
         }
         let mut l = [MARK; 1024];
         let found = unsafe { port::matrix_cholesky(&all, n, &mut l) };
-        self.verdict("Matrix::cholesky", n, found, rust.is_some());
-        let entries = rust.map_or(&[][..], |factor| &factor.l);
-        self.array("Matrix::cholesky", n, &l, entries, &[0.0; 1024]);
+        self.lent_factor("Matrix::cholesky", n, found, &l, rust);
     }
 
-    /// A kernel writes on and left of the diagonal alone. Where a pivot is refused the Rust gives no entries to compare those with.
+    /// The factor is written on and left of the diagonal alone. Where a pivot is refused the Rust gives no entries to compare those with.
     fn lent_factor(&mut self, what: &str, n: usize, found: bool, l: &[f64], rust: Option<&Cholesky>) {
         self.verdict(what, n, found, rust.is_some());
         let mut wanted = rust.map_or_else(|| l[..n * n].to_vec(), |factor| factor.l.clone());
@@ -85,9 +83,9 @@ impl Tally {
         let mut y = [MARK; 33];
         unsafe { port::kernel_mul_vec(&all, n, &array(v, MARK), &mut y) };
         self.array("kernels::mul_vec", n, &y, &rust, &[MARK; 33]);
-        let mut y: [f64; 32] = array(v, MARK);
-        unsafe { port::matrix_mul_vec(&all, n, &mut y) };
-        self.array("Matrix::mul_vec", n, &y, &rust, &[0.0; 32]);
+        let mut y = [MARK; 32];
+        unsafe { port::matrix_mul_vec(&all, n, &array(v, MARK), &mut y) };
+        self.array("Matrix::mul_vec", n, &y, &rust, &[MARK; 32]);
         if n <= 4 {
             let mut y = [MARK; 4];
             unsafe { port::kernel_mul_vec_16(&array(&a.data, MARK), n, &array(v, MARK), &mut y) };
@@ -99,19 +97,19 @@ impl Tally {
         let n = factor.n;
         let l: [f64; 1024] = array(&factor.l, MARK);
         type Lent = unsafe extern "C" fn(&[f64; 1024], usize, &mut [f64; 33]);
-        type ByValue = unsafe extern "C" fn(&[f64; 1024], usize, &mut [f64; 32]);
+        type Method = unsafe extern "C" fn(&[f64; 1024], usize, &mut [f64; 32]);
         type Short = unsafe extern "C" fn(&[f64; 16], usize, &mut [f64; 4]);
-        let all: [(&str, Vec<f64>, Lent, ByValue, Short); 3] = [
+        let all: [(&str, Vec<f64>, Lent, Method, Short); 3] = [
             ("solve", factor.solve(b), port::kernel_solve, port::cholesky_solve, port::kernel_solve_16),
             ("forward", factor.forward(b), port::kernel_forward, port::cholesky_forward, port::kernel_forward_16),
             ("backward", factor.backward(b), port::kernel_backward, port::cholesky_backward, port::kernel_backward_16),
         ];
-        for (what, rust, lent, by_value, short) in all {
+        for (what, rust, lent, method, short) in all {
             let mut x: [f64; 33] = array(b, MARK);
             unsafe { lent(&l, n, &mut x) };
             self.array(&format!("kernels::{what}"), n, &x, &rust, &[MARK; 33]);
             let mut x: [f64; 32] = array(b, MARK);
-            unsafe { by_value(&l, n, &mut x) };
+            unsafe { method(&l, n, &mut x) };
             self.array(&format!("Cholesky::{what}"), n, &x, &rust, &[MARK; 32]);
             if n <= 4 {
                 let mut x: [f64; 4] = array(b, MARK);
@@ -130,7 +128,7 @@ impl Tally {
         self.array("kernels::inverse", n, &m, &rust, &[MARK; 1024]);
         let mut m = [MARK; 1024];
         unsafe { port::cholesky_inverse(&l, n, &mut m) };
-        self.array("Cholesky::inverse", n, &m, &rust, &[0.0; 1024]);
+        self.array("Cholesky::inverse", n, &m, &rust, &[MARK; 1024]);
         if n <= 4 {
             let mut m = [MARK; 16];
             unsafe { port::kernel_inverse_16(&array(&factor.l, MARK), n, &mut m) };

@@ -15,13 +15,13 @@ extern "C" {
     pub fn kernel_backward_16(l: &[f64; 16], n: usize, x: &mut [f64; 4]);
     pub fn kernel_inverse_16(l: &[f64; 16], n: usize, m: &mut [f64; 16]);
     pub fn matrix_zeros(n: usize, m: &mut [f64; 1024]);
-    pub fn matrix_get(m: &[f64; 1024], n: usize, row: usize, column: usize) -> f64;
-    pub fn matrix_set(m: &mut [f64; 1024], n: usize, row: usize, column: usize, value: f64);
-    pub fn matrix_add(m: &mut [f64; 1024], n: usize, row: usize, column: usize, value: f64);
+    pub fn matrix_get(a: &[f64; 1024], n: usize, row: usize, column: usize) -> f64;
+    pub fn matrix_set(a: &mut [f64; 1024], n: usize, row: usize, column: usize, value: f64);
+    pub fn matrix_add(a: &mut [f64; 1024], n: usize, row: usize, column: usize, value: f64);
     pub fn matrix_cholesky(a: &[f64; 1024], n: usize, l: &mut [f64; 1024]) -> bool;
-    pub fn matrix_mul_vec(a: &[f64; 1024], n: usize, v: &mut [f64; 32]);
+    pub fn matrix_mul_vec(a: &[f64; 1024], n: usize, v: &[f64; 32], y: &mut [f64; 32]);
     pub fn cholesky_solve(l: &[f64; 1024], n: usize, x: &mut [f64; 32]);
-    pub fn cholesky_forward(l: &[f64; 1024], n: usize, x: &mut [f64; 32]);
+    pub fn cholesky_forward(l: &[f64; 1024], n: usize, y: &mut [f64; 32]);
     pub fn cholesky_backward(l: &[f64; 1024], n: usize, x: &mut [f64; 32]);
     pub fn cholesky_inverse(l: &[f64; 1024], n: usize, m: &mut [f64; 1024]);
     pub fn vec3_sub(a: &[f64; 3], b: &[f64; 3], r: &mut [f64; 3]);

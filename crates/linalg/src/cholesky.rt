@@ -1,11 +1,9 @@
-// A Cholesky factorisation `A = L Lᵀ`. A solution stands in the first n entries, and what the right
-// side has past them stays.
+// A Cholesky factorisation `A = L Lᵀ`, its array lent to each method as a matrix's is. A solution
+// takes the place of the right side in its first n entries, and what lies past them stays.
 ghost use mathlib.Core.Path.{_≡_};
 ghost use Prim.Native.Nat.{_≤_};
 ghost use Rattle.dense.specs.Solve.{forward, backward, solve};
 ghost use Rattle.dense.specs.Inverse.{inverse};
-ghost use Rattle.linalg.specs.Methods.{zeros, matrix};
-use crate::matrix::Matrix;
 
 pub struct Cholesky {
     pub n: usize,
@@ -13,44 +11,35 @@ pub struct Cholesky {
 }
 
 impl Cholesky {
-    // `x` with `A x = b`.
-    pub fn solve(self, b: [f64; 32]) -> [f64; 32]
-        requires { ⌜ self .n ≤ 32 ⌝ }
-        ensures { λ r. ⌜ r ≡ solve (self .l) (self .n) b ⌝ }
+    // `x` with `A x = b`: x holds b at entry.
+    pub fn solve(l: &[f64; 1024], n: usize, x: &mut [f64; 32])
+        requires { ⌜ n ≤ 32 ⌝ }
+        ensures { λ _. ⌜ now (x .exit) ≡ solve (now (l .entry)) n (now (x .entry)) ⌝ }
     {
-        let mut x = b;
-        dense::solve(&self.l, self.n, &mut x);
-        x
+        dense::solve(l, n, &mut *x);
     }
 
-    // `y` with `L y = b`.
-    pub fn forward(self, b: [f64; 32]) -> [f64; 32]
-        requires { ⌜ self .n ≤ 32 ⌝ }
-        ensures { λ r. ⌜ r ≡ forward (self .l) (self .n) b ⌝ }
+    // `y` with `L y = b`: y holds b at entry.
+    pub fn forward(l: &[f64; 1024], n: usize, y: &mut [f64; 32])
+        requires { ⌜ n ≤ 32 ⌝ }
+        ensures { λ _. ⌜ now (y .exit) ≡ forward (now (l .entry)) n (now (y .entry)) ⌝ }
     {
-        let mut y = b;
-        dense::forward(&self.l, self.n, &mut y);
-        y
+        dense::forward(l, n, &mut *y);
     }
 
-    // `x` with `Lᵀ x = y`.
-    pub fn backward(self, y: [f64; 32]) -> [f64; 32]
-        requires { ⌜ self .n ≤ 32 ⌝ }
-        ensures { λ r. ⌜ r ≡ backward (self .l) (self .n) y ⌝ }
+    // `x` with `Lᵀ x = y`: x holds y at entry.
+    pub fn backward(l: &[f64; 1024], n: usize, x: &mut [f64; 32])
+        requires { ⌜ n ≤ 32 ⌝ }
+        ensures { λ _. ⌜ now (x .exit) ≡ backward (now (l .entry)) n (now (x .entry)) ⌝ }
     {
-        let mut x = y;
-        dense::backward(&self.l, self.n, &mut x);
-        x
+        dense::backward(l, n, &mut *x);
     }
 
-    // `A⁻¹`, column by column.
-    pub fn inverse(self) -> Matrix
-        requires { ⌜ self .n ≤ 32 ⌝ }
-        ensures { λ r. ⌜ r ≡ matrix (self .n) (inverse (self .l) (self .n) zeros) ⌝ }
+    // `A⁻¹`, column by column, into the array of a `Matrix`.
+    pub fn inverse(l: &[f64; 1024], n: usize, m: &mut [f64; 1024])
+        requires { ⌜ n ≤ 32 ⌝ }
+        ensures { λ _. ⌜ now (m .exit) ≡ inverse (now (l .entry)) n (now (m .entry)) ⌝ }
     {
-        let n = self.n;
-        let mut data = [0.0; 1024];
-        dense::inverse(&self.l, n, &mut data);
-        Matrix { n, data }
+        dense::inverse(l, n, &mut *m);
     }
 }

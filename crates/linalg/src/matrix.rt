@@ -1,22 +1,15 @@
-// A square matrix, row by row, of a size up to 32.
+// A square matrix, row by row, of a size up to 32. `&self` is written as the struct's array, lent,
+// and its size: no method moves the 8 KB.
 ghost use mathlib.Core.Path.{_≡_};
 ghost use Prim.Native.Nat.{_<_, _≤_};
-ghost use lib.ListN.{replicate};
-ghost use Rattle.binary64.specs.Steps.{_⊕_, nought};
+ghost use Rattle.binary64.specs.Steps.{_⊕_};
 ghost use Rattle.dense.specs.Entries.{at, put, mulVec};
-ghost use Rattle.dense.specs.Factor.{cholesky};
-ghost use Rattle.linalg.specs.Methods.{zeros, matrix, factored};
-use crate::cholesky::Cholesky;
+ghost use Rattle.dense.specs.Factor.{verdict, cholesky};
+ghost use Rattle.linalg.specs.Methods.{zeros, matrix};
 
 pub struct Matrix {
     pub n: usize,
     pub data: [f64; 1024],
-}
-
-// The factor where one is found, and an empty one where a pivot is refused.
-pub struct Factored {
-    pub found: bool,
-    pub factor: Cholesky,
 }
 
 impl Matrix {
@@ -30,61 +23,42 @@ impl Matrix {
         }
     }
 
-    pub fn get(self, row: usize, column: usize) -> f64
-        requires { ⌜ (self .n ≤ 32) × (row < self .n) × (column < self .n) ⌝ }
-        ensures { λ r. ⌜ r ≡ at (self .data) (self .n) row column ⌝ }
+    pub fn get(a: &[f64; 1024], n: usize, row: usize, column: usize) -> f64
+        requires { ⌜ (n ≤ 32) × (row < n) × (column < n) ⌝ }
+        ensures { λ r. ⌜ r ≡ at (now (a .entry)) n row column ⌝ }
     {
-        dense::at(&self.data, self.n, row, column)
+        dense::at(a, n, row, column)
     }
 
-    pub fn set(mut self, row: usize, column: usize, value: f64) -> Self
-        requires { ⌜ (self .n ≤ 32) × (row < self .n) × (column < self .n) ⌝ }
-        ensures { λ r. ⌜ r ≡ matrix (self .n) (put (self .data) (self .n) row column value) ⌝ }
+    pub fn set(a: &mut [f64; 1024], n: usize, row: usize, column: usize, value: f64)
+        requires { ⌜ (n ≤ 32) × (row < n) × (column < n) ⌝ }
+        ensures { λ _. ⌜ now (a .exit) ≡ put (now (a .entry)) n row column value ⌝ }
     {
-        let k = row * self.n + column;
-        self.data[k] = value;
-        self
+        dense::put(&mut *a, n, row, column, value);
     }
 
-    pub fn add(mut self, row: usize, column: usize, value: f64) -> Self
-        requires { ⌜ (self .n ≤ 32) × (row < self .n) × (column < self .n) ⌝ }
-        ensures { λ r. ⌜ r ≡ matrix (self .n) (put (self .data) (self .n) row column (at (self .data) (self .n) row column ⊕ value)) ⌝ }
+    pub fn add(a: &mut [f64; 1024], n: usize, row: usize, column: usize, value: f64)
+        requires { ⌜ (n ≤ 32) × (row < n) × (column < n) ⌝ }
+        ensures { λ _. ⌜ now (a .exit) ≡ put (now (a .entry)) n row column (at (now (a .entry)) n row column ⊕ value) ⌝ }
     {
-        let k = row * self.n + column;
-        self.data[k] = self.data[k] + value;
-        self
+        let sum = dense::at(&*a, n, row, column) + value;
+        dense::put(&mut *a, n, row, column, sum);
     }
 
-    // The Cholesky factor `L` (lower triangular, `A = L Lᵀ`), or none where the matrix is not positive
-    // definite to working precision.
-    pub fn cholesky(self) -> Factored
-        requires { ⌜ self .n ≤ 32 ⌝ }
-        ensures { λ r. ⌜ r ≡ factored (self .n) (cholesky (self .data) (self .n) zeros) ⌝ }
+    // The Cholesky factor `L` (lower triangular, `A = L Lᵀ`) into the array of a `Cholesky`; false where
+    // the matrix is not positive definite to working precision.
+    pub fn cholesky(a: &[f64; 1024], n: usize, l: &mut [f64; 1024]) -> bool
+        requires { ⌜ n ≤ 32 ⌝ }
+        ensures { λ r. ⌜ verdict r (now (l .exit)) ≡ cholesky (now (a .entry)) n (now (l .entry)) ⌝ }
     {
-        let n = self.n;
-        let mut l = [0.0; 1024];
-        if dense::cholesky(&self.data, n, &mut l) {
-            return Factored {
-                found: true,
-                factor: Cholesky { n, l },
-            };
-        }
-        Factored {
-            found: false,
-            factor: Cholesky {
-                n: 0,
-                l: [0.0; 1024],
-            },
-        }
+        dense::cholesky(a, n, &mut *l)
     }
 
-    // `self · v`, with zeros past the n rows.
-    pub fn mul_vec(self, v: [f64; 32]) -> [f64; 32]
-        requires { ⌜ self .n ≤ 32 ⌝ }
-        ensures { λ r. ⌜ r ≡ mulVec (self .data) (self .n) v (replicate 32 nought) ⌝ }
+    // `A v`, into y.
+    pub fn mul_vec(a: &[f64; 1024], n: usize, v: &[f64; 32], y: &mut [f64; 32])
+        requires { ⌜ n ≤ 32 ⌝ }
+        ensures { λ _. ⌜ now (y .exit) ≡ mulVec (now (a .entry)) n (now (v .entry)) (now (y .entry)) ⌝ }
     {
-        let mut y = [0.0; 32];
-        dense::mul_vec(&self.data, self.n, &v, &mut y);
-        y
+        dense::mul_vec(a, n, v, &mut *y);
     }
 }

@@ -1,23 +1,15 @@
--- `linalg::cholesky::Cholesky::solve` meets its contract. A size up to 32 has room (`room`), and the rest is what the kernel ensures. Assumes nothing.
+-- `linalg::cholesky::Cholesky::solve` meets its contract: a size up to 32 has room (`room`), and the rest is what the kernel ensures. Assumes nothing.
 use borrow.Author.Needs.{needs}
 use native.Mathlib.Omega.{arith}
 use Rattle.dense.proofs.Places.{room}
 use Rattle.linalg.proofs.cholesky.Cholesky.solve.Statement.{statement}
 use Rattle.linalg.proofs.cholesky.Cholesky.solve.Tie as tie
 
-slice-aggregate-solve : tie.Need-slice-aggregate-solve
-slice-aggregate-solve c = search needs
-
 solve-requires : tie.Need-solve-requires
-solve-requires c κs = omega (arith, room (c .before .before .before .before .args .t1 .n) (c .before .before .before .before .pre))
+solve-requires c κs = omega (arith, room (c .before .before .args .n) (c .before .before .pre))
 
 returns : tie.Need-returns
 returns c = search needs
 
 pub solve-spec : {M : Type 1} → statement M
-solve-spec =
-    tie.close
-    (tie.spec
-    slice-aggregate-solve
-    solve-requires
-    returns)
+solve-spec = tie.close (tie.spec solve-requires returns)

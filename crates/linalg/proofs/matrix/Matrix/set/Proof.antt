@@ -1,35 +1,15 @@
--- `linalg::matrix::Matrix::set` meets its contract. The entry's place is in the array (`place`, `room`). Assumes nothing.
+-- `linalg::matrix::Matrix::set` meets its contract: a size up to 32 has room (`room`), and the rest is what the kernel ensures. Assumes nothing.
 use borrow.Author.Needs.{needs}
-use Prim.Native.Nat.{_+_, _*_, _<_}
 use native.Mathlib.Omega.{arith}
-use Rattle.dense.proofs.Places.{room, place}
+use Rattle.dense.proofs.Places.{room}
 use Rattle.linalg.proofs.matrix.Matrix.set.Statement.{statement}
 use Rattle.linalg.proofs.matrix.Matrix.set.Tie as tie
 
-inside : (c : tie.Start) → c .args .row * c .args .t1 .n + c .args .column < 1024
-inside c = omega (arith, place (c .args .row) (c .args .column) (c .args .t1 .n) (c .pre .1) (c .pre .2), room (c .args .t1 .n) (c .pre .0))
-
-mul-k : tie.Need-mul-k
-mul-k c = omega (arith, inside c)
-
-add-k : tie.Need-add-k
-add-k c = omega (arith, inside c)
-
-mul-self : tie.Need-mul-self
-mul-self c = omega (arith, inside c)
-
-element-write-self : tie.Need-element-write-self
-element-write-self c = omega (arith, inside c)
+put-requires : tie.Need-put-requires
+put-requires c κs = omega (arith, room (c .before .args .n) (c .before .pre .0))
 
 returns : tie.Need-returns
 returns c = search needs
 
 pub set-spec : {M : Type 1} → statement M
-set-spec =
-    tie.close
-    (tie.spec
-    mul-k
-    add-k
-    mul-self
-    element-write-self
-    returns)
+set-spec = tie.close (tie.spec put-requires returns)
