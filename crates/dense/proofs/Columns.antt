@@ -9,17 +9,17 @@ use lib.Ieee.{Float, lt}
 use Rattle.binary64.specs.Steps.{nought}
 use Rattle.binary64.specs.Root.{root}
 use Rattle.dense.specs.Entries.{put}
-use Rattle.dense.specs.Factor.{found, refused, columnTo, pivot, pivoted, column, choleskyTo}
+use Rattle.dense.specs.Factor.{found, refused, columnTo, pivot, column, choleskyTo}
 
 module _ (a : List Float) (n : ℕ) (z : List Float) where
   module _ (j : ℕ) (l : List Float) (e : choleskyTo a n z j ≡ found l) where
     pub next : lt nought (pivot a n j l) ≡ true
         → choleskyTo a n z (suc j) ≡ found (columnTo a n j (root (pivot a n j l)) (put l n j j (root (pivot a n j l))) (n - (j + 1)))
-    unfolding choleskyTo column pivoted
+    unfolding choleskyTo column
     next h = rw (e, h)
 
     stop : lt nought (pivot a n j l) ≡ false → choleskyTo a n z (suc j) ≡ refused l
-    unfolding choleskyTo column pivoted
+    unfolding choleskyTo column
     stop h = rw (e, h)
 
   stays : (l : List Float) (j d : ℕ) → choleskyTo a n z j ≡ refused l → choleskyTo a n z (j + d) ≡ refused l

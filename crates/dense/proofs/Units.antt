@@ -1,11 +1,15 @@
 -- The first n of 32 entries that hold a unit vector are the unit vector of size n. Assumes nothing.
 use mathlib.Core.Path.{_≡_, ap, _∙_}
+use mathlib.Core.List.{List}
 use Prim.Native.Nat.{ℕ, _+_, _-_, _≤_, _<_}
 use native.Mathlib.Omega.{arith}
 use lib.ListN.{length, take, set, replicate, length-set, length-replicate, replicate-append-replicate}
 use lib.Seq.{take-set-lt, take-at}
+use lib.Ieee.{Float}
 use Rattle.binary64.specs.Steps.{nought, one}
-use Rattle.dense.specs.Inverse.{unit}
+
+abbrev pub unit : ℕ → ℕ → List Float
+unit n column = set (replicate n nought) column one
 
 take-zeros : (n m : ℕ) → n ≤ m → take n (replicate m nought) ≡ replicate n nought
 take-zeros n m h =

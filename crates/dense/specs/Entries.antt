@@ -29,7 +29,6 @@ dots a b (suc k) = dots a b k ⊕ a k ⊗ b k
 
 -- `Matrix::mul_vec`: A v in the array y, once its rows below `row` are found
 unfoldable pub mulVecTo : List Float → ℕ → List Float → List Float → ℕ → List Float
-unfolding dots
 mulVecTo a n v y zero = y
 mulVecTo a n v y (suc row) = set (mulVecTo a n v y row) row (dots (at a n row) (nth v) n)
 

@@ -20,7 +20,6 @@ verdict false l = refused l
 
 -- `for i in j + 1..n`, after m turns: column j below the diagonal. Row i's entry is (A i j - L i 0 * L j 0 - .. - L i (j - 1) * L j (j - 1)) / root
 unfoldable pub columnTo : List Float → ℕ → ℕ → Float → List Float → ℕ → List Float
-unfolding minusDots
 columnTo a n j root l zero = l
 columnTo a n j root l (suc m) =
     let g = columnTo a n j root l m in
@@ -31,22 +30,15 @@ columnTo a n j root l (suc m) =
 abbrev pub pivot : List Float → ℕ → ℕ → List Float → Float
 pivot a n j l = minusDots (at l n j) (at l n j) j (at a n j j)
 
--- column j by its pivot. Document 01: "A pivot that is not a number, or not above 0, is refused." A comparison with a not-a-number is false.
-unfoldable pub pivoted : List Float → ℕ → ℕ → List Float → Float → Factor
-unfolding columnTo
-pivoted a n j l diagonal =
-    let r = root diagonal in
-    cond (lt nought diagonal) (found (columnTo a n j r (put l n j j r) (n - (j + 1)))) (refused l)
-
--- one column more, unless a pivot is refused already
+-- column j, unless a pivot is refused already. Document 01: "A pivot that is not a number, or not above 0, is refused." A comparison with a not-a-number is false.
 unfoldable pub column : List Float → ℕ → ℕ → Factor → Factor
-unfolding pivoted
-column a n j (found l) = pivoted a n j l (pivot a n j l)
+column a n j (found l) =
+    let r = root (pivot a n j l) in
+    cond (lt nought (pivot a n j l)) (found (columnTo a n j r (put l n j j r) (n - (j + 1)))) (refused l)
 column a n j (refused l) = refused l
 
 -- `for j in 0..n`, after j turns: the factor in the array l
 unfoldable pub choleskyTo : List Float → ℕ → List Float → ℕ → Factor
-unfolding column
 choleskyTo a n l zero = found l
 choleskyTo a n l (suc j) = column a n j (choleskyTo a n l j)
 

@@ -7,20 +7,15 @@ use Rattle.binary64.specs.Steps.{_⊕_, _⊗_, nought, one, half}
 use Rattle.dense.specs.Entries.{nth, at, put}
 use Rattle.dense.specs.Solve.{solve}
 
--- `unit`: n zeros, then 1 at `column`
-abbrev pub unit : ℕ → ℕ → List Float
-unit n column = set (replicate n nought) column one
-
 -- `inverse.set(row, column, value)` for the values of x, after `row` turns
 unfoldable pub putColumnTo : List Float → ℕ → ℕ → List Float → ℕ → List Float
 putColumnTo m n column x zero = m
 putColumnTo m n column x (suc row) = put (putColumnTo m n column x row) n row column (nth x row)
 
--- `for column in 0..n`, after `column` turns: the solutions of the unit vectors, in the columns of m
+-- `for column in 0..n`, after `column` turns: the solutions of the unit vectors, n zeros but 1 at `column`, in the columns of m
 unfoldable pub columnsTo : List Float → ℕ → List Float → ℕ → List Float
-unfolding putColumnTo
 columnsTo l n m zero = m
-columnsTo l n m (suc column) = putColumnTo (columnsTo l n m column) n column (solve l n (unit n column)) n
+columnsTo l n m (suc column) = putColumnTo (columnsTo l n m column) n column (solve l n (set (replicate n nought) column one)) n
 
 -- "Symmetrise exactly": `for column in row + 1..n`, after k turns. The entry of row and column and its mirror both become half their sum.
 unfoldable pub symmetriseRowTo : ℕ → ℕ → List Float → ℕ → List Float
@@ -33,7 +28,6 @@ symmetriseRowTo n row m (suc k) =
 
 -- `for row in 0..n`, after `row` turns
 unfoldable pub symmetriseTo : ℕ → List Float → ℕ → List Float
-unfolding symmetriseRowTo
 symmetriseTo n m zero = m
 symmetriseTo n m (suc row) = symmetriseRowTo n row (symmetriseTo n m row) (n - (row + 1))
 

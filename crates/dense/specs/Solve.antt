@@ -8,7 +8,6 @@ use Rattle.dense.specs.Entries.{nth, at, minusDots}
 
 -- `Cholesky::forward`, y with L y = b, after i turns of `for i in 0..n`: row i's entry is (b i - L i 0 * y 0 - .. - L i (i - 1) * y (i - 1)) / L i i
 unfoldable pub forwardTo : List Float → ℕ → List Float → ℕ → List Float
-unfolding minusDots
 forwardTo l n b zero = b
 forwardTo l n b (suc i) =
     let y = forwardTo l n b i in
@@ -20,7 +19,6 @@ forward l n b = forwardTo l n b n
 
 -- `Cholesky::backward`, x with Lᵀ x = y, after m turns of `for i in (0..n).rev()`: row i's entry is (y i - L (i + 1) i * x (i + 1) - .. - L (n - 1) i * x (n - 1)) / L i i
 unfoldable pub backwardTo : List Float → ℕ → List Float → ℕ → List Float
-unfolding minusDots
 backwardTo l n y zero = y
 backwardTo l n y (suc m) =
     let x = backwardTo l n y m in

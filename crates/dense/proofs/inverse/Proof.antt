@@ -7,8 +7,8 @@ use native.Mathlib.Omega.{arith}
 use lib.ListN.{length, take, set, replicate, length-append}
 use lib.Seq.{take-at}
 use Rattle.binary64.specs.Steps.{nought, one}
-use Rattle.dense.specs.Inverse.{unit, columnsTo}
-use Rattle.dense.proofs.Units.{unit-part, unit-length}
+use Rattle.dense.specs.Inverse.{columnsTo}
+use Rattle.dense.proofs.Units.{unit, unit-part, unit-length}
 use Rattle.dense.proofs.inverse.Statement.{statement}
 use Rattle.dense.proofs.inverse.Tie as tie
 
