@@ -1,0 +1,73 @@
+-- The receptions of a solve: those of receptions.bin, those of a caller's list, and as arrays by field. Document 01, 'The fix: 176 bytes' and 'Forms for parts of the code'. Definitions only.
+use mathlib.Core.List.{List, [], _∷_}
+use Prim.Native.Nat.{ℕ, zero, suc, _+_, _*_, _/_, _%_}
+use lib.IntN.{ℤ, pos}
+use lib.ListN.{getD, set, replicate}
+use lib.Ieee.{Float, nan}
+use Rattle.binary64.specs.Steps.{nought}
+use Rattle.dense.specs.Entries.{nth}
+use Rattle.words.specs.Words.{u64At, i64At, f64At}
+use Rattle.receptions.specs.declared.Reception.{Reception}
+use Rattle.receptions.specs.declared.Fields.{Fields}
+
+-- "`receptions.bin`, 64 bytes each"
+abbrev pub receptionBytes : ℕ
+receptionBytes = 64
+
+-- "identity u64, time i64 ps, site three i64 mm, z f64 (metres of light), noise f64 (m²), eight zero bytes": reception i
+unfoldable pub receptionAt : List ℕ → ℕ → Reception
+receptionAt bytes i =
+    let at = receptionBytes * i in
+    record {
+      id = u64At bytes at;
+      time = i64At bytes (at + 8);
+      «site_mm» = i64At bytes (at + 16) ∷ i64At bytes (at + 24) ∷ i64At bytes (at + 32) ∷ [];
+      z = f64At bytes (at + 40);
+      «noise_m2» = f64At bytes (at + 48);
+      filler = u64At bytes (at + 56);
+    }
+
+-- arrays of zeros
+abbrev pub wholes : ℕ → List ℤ
+wholes size = replicate size (pos 0)
+
+abbrev pub floats : ℕ → List Float
+floats size = replicate size nought
+
+-- what stands behind a list, and is never read
+abbrev pub none : Reception
+none = record { id = 0; time = pos 0; «site_mm» = []; z = nan; «noise_m2» = nan; filler = 0 }
+
+-- "a thin entry takes the caller's own list of reception records": reception i
+abbrev pub listedAt : List Reception → ℕ → Reception
+listedAt receptions i = getD receptions i none
+
+-- the array a with f 0 to f (k - 1) at its start
+unfoldable pub fillTo : {A : Type 0} → List A → (ℕ → A) → ℕ → List A
+fillTo a f zero = a
+fillTo a f (suc k) = set (fillTo a f k) k (f k)
+
+-- "unpacked into arrays by field": the first n receptions, three coordinates a site, and zeros past them
+unfoldable pub fieldsOf : (ℕ → Reception) → ℕ → Fields
+unfolding fillTo
+fieldsOf at n =
+    record {
+      id = fillTo (replicate 32 0) (λ i. at i .id) n;
+      time = fillTo (wholes 32) (λ i. at i .time) n;
+      «site_mm» = fillTo (wholes 96) (λ k. getD (at (k / 3) .«site_mm») (k % 3) (pos 0)) (3 * n);
+      z = fillTo (floats 32) (λ i. at i .z) n;
+      «noise_m2» = fillTo (floats 32) (λ i. at i .«noise_m2») n;
+      filler = fillTo (replicate 32 0) (λ i. at i .filler) n;
+    }
+
+-- reception i, out of its fields
+unfoldable pub receptionIn : Fields → ℕ → Reception
+receptionIn f i =
+    record {
+      id = getD (f .id) i 0;
+      time = getD (f .time) i (pos 0);
+      «site_mm» = getD (f .«site_mm») (3 * i) (pos 0) ∷ getD (f .«site_mm») (3 * i + 1) (pos 0) ∷ getD (f .«site_mm») (3 * i + 2) (pos 0) ∷ [];
+      z = nth (f .z) i;
+      «noise_m2» = nth (f .«noise_m2») i;
+      filler = getD (f .filler) i 0;
+    }

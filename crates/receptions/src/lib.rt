@@ -1,0 +1,139 @@
+// Receptions, unpacked into arrays by field: those of receptions.bin, and those of a caller's list.
+ghost use mathlib.Core.Path.{_≡_};
+ghost use Prim.Native.Nat.{_+_, _*_, _<_, _≤_};
+ghost use lib.IntN.{pos};
+ghost use lib.ListN.{length, set, getD};
+ghost use Rattle.receptions.specs.Receptions.{receptionBytes, receptionAt, listedAt, fieldsOf};
+
+// A reception as its 64 bytes have it: `Item` of solve.rs, and eight bytes that are to be zero. A
+// caller's list and receptions.bin have one layout.
+#[repr(C)]
+pub struct Reception {
+    pub id: u64,
+    pub time: i64,
+    pub site_mm: [i64; 3],
+    pub z: f64,
+    pub noise_m2: f64,
+    pub filler: u64,
+}
+
+// The receptions by field, the three coordinates of a site one after the other, and zeros past them.
+pub struct Fields {
+    pub id: [u64; 32],
+    pub time: [i64; 32],
+    pub site_mm: [i64; 96],
+    pub z: [f64; 32],
+    pub noise_m2: [f64; 32],
+    pub filler: [u64; 32],
+}
+
+// The bytes of a reception, by document 01.
+const RECEPTION: usize = 64;
+
+// Room for every reception.
+fn blank() -> [Reception; 32]
+    ensures { λ r. ⌜ length r ≡ 32 ⌝ }
+{
+    let site = [0i64; 3];
+    let r = Reception {
+        id: 0,
+        time: 0,
+        site_mm: site,
+        z: 0.0,
+        noise_m2: 0.0,
+        filler: 0,
+    };
+    [r; 32]
+}
+
+fn put_site(out: &mut [i64; 96], i: usize, site: [i64; 3])
+    requires { ⌜ i < 32 ⌝ }
+    ensures { λ _. ⌜ now (out .exit) ≡ set (set (set (now (out .entry)) (3 * i) (getD site 0 (pos 0))) (3 * i + 1) (getD site 1 (pos 0))) (3 * i + 2) (getD site 2 (pos 0)) ⌝ }
+{
+    let at = 3 * i;
+    out[at] = site[0];
+    out[at + 1] = site[1];
+    out[at + 2] = site[2];
+}
+
+// The first n receptions of a list, by field.
+fn by_field(list: [Reception; 32], n: usize) -> Fields
+    requires { ⌜ n ≤ 32 ⌝ }
+    ensures { λ r. ⌜ r ≡ fieldsOf (listedAt list) n ⌝ }
+{
+    let mut id = [0u64; 32];
+    let mut time = [0i64; 32];
+    let mut site_mm = [0i64; 96];
+    let mut z = [0.0; 32];
+    let mut noise_m2 = [0.0; 32];
+    let mut filler = [0u64; 32];
+    for i in 0..n {
+        let r = list[i];
+        let t = r.time;
+        let site = r.site_mm;
+        id[i] = r.id;
+        time[i] = t;
+        put_site(&mut site_mm, i, site);
+        z[i] = r.z;
+        noise_m2[i] = r.noise_m2;
+        filler[i] = r.filler;
+    }
+    Fields {
+        id,
+        time,
+        site_mm,
+        z,
+        noise_m2,
+        filler,
+    }
+}
+
+fn reception_at(receptions: &[u8], i: usize) -> Reception
+    requires { ⌜ receptionBytes * i + receptionBytes ≤ length (now receptions) ⌝ }
+    ensures { λ r. ⌜ r ≡ receptionAt (now (receptions .entry)) i ⌝ }
+{
+    let at = RECEPTION * i;
+    let x = words::i64_at(receptions, at + 16);
+    let y = words::i64_at(receptions, at + 24);
+    let z = words::i64_at(receptions, at + 32);
+    let site = [x, y, z];
+    Reception {
+        id: words::u64_at(receptions, at),
+        time: words::i64_at(receptions, at + 8),
+        site_mm: site,
+        z: words::f64_at(receptions, at + 40),
+        noise_m2: words::f64_at(receptions, at + 48),
+        filler: words::u64_at(receptions, at + 56),
+    }
+}
+
+// The first n receptions of receptions.bin.
+pub fn of_bytes(receptions: &[u8], n: usize) -> Fields
+    requires { ⌜ (receptionBytes * n ≤ length (now receptions)) × (n ≤ 32) ⌝ }
+    ensures { λ r. ⌜ r ≡ fieldsOf (receptionAt (now (receptions .entry))) n ⌝ }
+{
+    let mut list = blank();
+    for i in 0..n {
+        list[i] = reception_at(receptions, i);
+    }
+    by_field(list, n)
+}
+
+fn listed_at(receptions: &[Reception], i: usize) -> Reception
+    requires { ⌜ i < length (now receptions) ⌝ }
+    ensures { λ r. ⌜ r ≡ listedAt (now (receptions .entry)) i ⌝ }
+{
+    receptions[i]
+}
+
+// The first n receptions of a caller's list.
+pub fn of_list(receptions: &[Reception], n: usize) -> Fields
+    requires { ⌜ (n ≤ length (now receptions)) × (n ≤ 32) ⌝ }
+    ensures { λ r. ⌜ r ≡ fieldsOf (listedAt (now (receptions .entry))) n ⌝ }
+{
+    let mut list = blank();
+    for k in 0..n {
+        list[k] = listed_at(receptions, k);
+    }
+    by_field(list, n)
+}
