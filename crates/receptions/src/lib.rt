@@ -119,13 +119,6 @@ pub fn of_bytes(receptions: &[u8], n: usize) -> Fields
     by_field(list, n)
 }
 
-fn listed_at(receptions: &[Reception], i: usize) -> Reception
-    requires { ⌜ i < length (now receptions) ⌝ }
-    ensures { λ r. ⌜ r ≡ listedAt (now (receptions .entry)) i ⌝ }
-{
-    receptions[i]
-}
-
 // The first n receptions of a caller's list.
 pub fn of_list(receptions: &[Reception], n: usize) -> Fields
     requires { ⌜ (n ≤ length (now receptions)) × (n ≤ 32) ⌝ }
@@ -133,7 +126,7 @@ pub fn of_list(receptions: &[Reception], n: usize) -> Fields
 {
     let mut list = blank();
     for k in 0..n {
-        list[k] = listed_at(receptions, k);
+        list[k] = receptions[k];
     }
     by_field(list, n)
 }
