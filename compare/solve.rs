@@ -13,6 +13,7 @@ const ANSWERS: usize = 16;
 
 struct Tally {
     answers: [[u64; ANSWERS]; KINDS],
+    listed: u64,
     differences: u64,
 }
 
@@ -26,7 +27,7 @@ impl Tally {
         }
     }
 
-    /// One input: a whole output, longer than the record by `k` modulo 40, and a short one of `k` modulo 176 bytes.
+    /// One input, its receptions as bytes and, where they are whole, as structs: a whole output, longer than the record by `k` modulo 40, and a short one of `k` modulo 176 bytes.
     fn turn(&mut self, seed: u64, k: u64) {
         let kind = (k % KINDS as u64) as usize;
         let mut random = Random::of_problem(seed, k);
@@ -48,6 +49,13 @@ impl Tally {
         }
         if out[LENGTH..] != before[LENGTH..] {
             self.differs(k, kind, &files, "bytes past the record changed");
+        }
+        let mut listed = before.clone();
+        if let Some(again) = port_solve::solve_receptions(&files, spare, more, &mut listed) {
+            self.listed += 1;
+            if again != found || listed != out {
+                self.differs(k, kind, &files, &format!("a list of structs gives {again}, or another output"));
+            }
         }
         let short = k as usize / KINDS % LENGTH;
         let mut out = before[..short].to_vec();
@@ -75,7 +83,7 @@ impl Tally {
         for answer in (0..ANSWERS).filter(|answer| *answer != SHORT_OUTPUT as usize && sum(*answer) == 0) {
             println!("answer {answer} was not reached");
         }
-        println!("{count} inputs, {} differences", self.differences);
+        println!("{count} inputs, {} of them as a list of structs too, {} differences", self.listed, self.differences);
     }
 }
 
@@ -98,7 +106,7 @@ fn main() {
     let nowhere = Scene::default().problem().plausible(&[], &[f64::NAN; 4]);
     println!("in the original as it stands, a fit whose height is not a number is {}plausible", if nowhere { "" } else { "not " });
     let start = Instant::now();
-    let mut tally = Tally { answers: [[0; ANSWERS]; KINDS], differences: 0 };
+    let mut tally = Tally { answers: [[0; ANSWERS]; KINDS], listed: 0, differences: 0 };
     for k in 0..count {
         tally.turn(seed, k);
         if (k + 1) % count.div_ceil(50) == 0 {

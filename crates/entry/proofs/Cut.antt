@@ -1,5 +1,5 @@
 -- A file that is too long gets the reply of what the program `solve` cuts it to. Assumes nothing.
-use Prim.Native.Nat.{ℕ, _*_, _%_, _≤_, _<_}
+use Prim.Native.Nat.{ℕ, _*_, _/_, _%_, _≤_, _<_}
 use mathlib.Core.Path.{_≡_, refl, ap, sym, _∙_}
 use mathlib.Core.Bool.{Bool, true, false, cond, _&&_}
 use mathlib.Core.List.{List}
@@ -9,18 +9,19 @@ use borrow.Author.Tests.{eq-eqb, ne-eqb, lt-leb, leb-true}
 use lib.Dec.{eqb, leb}
 use lib.ListN.{length}
 use Rattle.dense.proofs.Places.{room}
+use Rattle.receptions.specs.Receptions.{receptionAt}
 use Rattle.inputs.specs.declared.Fault.{Fault}
 use Rattle.inputs.specs.declared.Fault.the-variants.{TornInput, TooMany, ClockSize}
 use Rattle.inputs.specs.declared.Check.{Check}
 use Rattle.inputs.specs.declared.Check.the-variants.{Passed, Refused}
 use Rattle.inputs.specs.Faults.{numberOf, detailOf, orElse, unless, firstTo}
-use Rattle.inputs.specs.Files.{receptionAt}
-use Rattle.inputs.specs.Inputs.{countOf, sized, whole, checkReception, checkClock, checkInputs}
-use Rattle.entry.specs.Reply.{Inputs, turnedAway, replied, reply}
+use Rattle.inputs.specs.Inputs.{Inputs, sized, whole, checkReception, checkClock, checkInputs}
+use Rattle.entry.specs.Reply.{turnedAway, replied, reply}
 use Rattle.entry.proofs.Replies.{made, bare}
 
+-- the inputs as `lent` has them
 abbrev of : List ℕ → Option (List ℕ) → Option (List ℕ) → Option (List ℕ) → Inputs
-of rs clock alt ref = record { receptions = rs; clock = clock; altitude = alt; reference = ref }
+of rs clock alt ref = record { whole = eqb (length rs % 64) 0; n = length rs / 64; at = receptionAt rs; clock = clock; altitude = alt; reference = ref }
 
 -- n is not written
 without-n : (fault : Fault) (n : ℕ) → 9 < numberOf fault → turnedAway fault n ≡ turnedAway fault 0
@@ -30,15 +31,15 @@ without-n fault n h = ap (made (numberOf fault)) (bare (numberOf fault) (detailO
 module _ (clock alt ref : Option (List ℕ)) where
   torn-reply : (rs : List ℕ) → (length rs % 64 ≡ 0 → ⊥) → reply (of rs clock alt ref) ≡ turnedAway TornInput 0
   unfolding reply checkInputs whole
-  torn-reply rs h = rw (ne-eqb (length rs % 64) 0 h) (without-n TornInput (countOf rs) (omega arith))
+  torn-reply rs h = rw (ne-eqb (length rs % 64) 0 h) (without-n TornInput (length rs / 64) (omega arith))
 
-  many-reply : (rs : List ℕ) → length rs % 64 ≡ 0 → 32 < countOf rs → reply (of rs clock alt ref) ≡ turnedAway (cond (sized 16 alt && sized 8 ref) TooMany TornInput) 0
+  many-reply : (rs : List ℕ) → length rs % 64 ≡ 0 → 32 < length rs / 64 → reply (of rs clock alt ref) ≡ turnedAway (cond (sized 16 alt && sized 8 ref) TooMany TornInput) 0
   unfolding reply checkInputs whole
-  many-reply rs h l = rw (eq-eqb (length rs % 64) 0 h, lt-leb (countOf rs) 32 l) (go (sized 16 alt && sized 8 ref))
+  many-reply rs h l = rw (eq-eqb (length rs % 64) 0 h, lt-leb (length rs / 64) 32 l) (go (sized 16 alt && sized 8 ref) _)
     where
-      go : (b : Bool) → replied (orElse (unless b TornInput) (Refused TooMany)) (of rs clock alt ref) ≡ turnedAway (cond b TooMany TornInput) 0
-      go true = without-n TooMany (countOf rs) (omega arith)
-      go false = without-n TornInput (countOf rs) (omega arith)
+      go : (b : Bool) (I : Inputs) → replied (orElse (unless b TornInput) (Refused TooMany)) I ≡ turnedAway (cond b TooMany TornInput) 0
+      go true I = without-n TooMany (I .n) (omega arith)
+      go false I = without-n TornInput (I .n) (omega arith)
 
   -- 2,111 bytes stand for every torn length
   pub cut-torn : (rs cut : List ℕ) → (length rs % 64 ≡ 0 → ⊥) → length cut ≡ 2111 → reply (of rs clock alt ref) ≡ reply (of cut clock alt ref)
@@ -50,33 +51,39 @@ module _ (clock alt ref : Option (List ℕ)) where
 
 -- ---- the clock covariance
 module _ (rs : List ℕ) (alt ref : Option (List ℕ)) where
+  abbrev n : ℕ
+  n = length rs / 64
+
+  abbrev torn : Check
+  torn = unless (eqb (length rs % 64) 0 && (sized 16 alt && sized 8 ref)) TornInput
+
   abbrev received : Check
-  received = firstTo (checkReception (receptionAt rs)) (countOf rs)
+  received = firstTo (checkReception (receptionAt rs)) n
 
   abbrev long : Check
-  long = orElse (unless (whole rs alt ref) TornInput) (orElse (unless (leb (countOf rs) 32) TooMany) (orElse received (Refused ClockSize)))
+  long = orElse torn (orElse (unless (leb n 32) TooMany) (orElse received (Refused ClockSize)))
 
-  clock-long : (b : List ℕ) → 8192 < length b → countOf rs ≤ 32 → checkClock (some b) (countOf rs) ≡ Refused ClockSize
-  clock-long b h l = rw (ne-eqb (length b) (8 * (countOf rs * countOf rs)) (λ e. omega (arith, room (countOf rs) l)))
+  clock-long : (b : List ℕ) → 8192 < length b → n ≤ 32 → checkClock (some b) n ≡ Refused ClockSize
+  clock-long b h l = rw (ne-eqb (length b) (8 * (n * n)) (λ e. omega (arith, room n l)))
 
-  check-long : (b : List ℕ) → 8192 < length b → checkInputs rs (some b) alt ref ≡ long
-  unfolding checkInputs
-  check-long b h = go (leb (countOf rs) 32) refl
+  check-long : (b : List ℕ) → 8192 < length b → checkInputs (of rs (some b) alt ref) ≡ long
+  unfolding checkInputs whole
+  check-long b h = go (leb n 32) refl
     where
-      go : (t : Bool) → leb (countOf rs) 32 ≡ t → checkInputs rs (some b) alt ref ≡ long
-      go true e = rw (e, clock-long b h (leb-true (countOf rs) 32 e))
+      go : (t : Bool) → leb n 32 ≡ t → checkInputs (of rs (some b) alt ref) ≡ long
+      go true e = rw (e, clock-long b h (leb-true n 32 e))
       go false e = rw e
 
-  same : (x y z : Check) (I J : Inputs) → I .receptions ≡ J .receptions → replied (orElse x (orElse y (orElse z (Refused ClockSize)))) I ≡ replied (orElse x (orElse y (orElse z (Refused ClockSize)))) J
-  same (Refused f) y z I J e = ap (λ (r : List ℕ). turnedAway f (countOf r)) e
-  same Passed (Refused f) z I J e = ap (λ (r : List ℕ). turnedAway f (countOf r)) e
-  same Passed Passed (Refused f) I J e = ap (λ (r : List ℕ). turnedAway f (countOf r)) e
-  same Passed Passed Passed I J e = ap (λ (r : List ℕ). turnedAway ClockSize (countOf r)) e
+  same : (x y z : Check) (I J : Inputs) → I .n ≡ J .n → replied (orElse x (orElse y (orElse z (Refused ClockSize)))) I ≡ replied (orElse x (orElse y (orElse z (Refused ClockSize)))) J
+  same (Refused f) y z I J e = ap (turnedAway f) e
+  same Passed (Refused f) z I J e = ap (turnedAway f) e
+  same Passed Passed (Refused f) I J e = ap (turnedAway f) e
+  same Passed Passed Passed I J e = ap (turnedAway ClockSize) e
 
   -- 8,193 bytes stand for every greater length
   pub cut-clock : (b cut : List ℕ) → 8192 < length b → 8192 < length cut → reply (of rs (some b) alt ref) ≡ reply (of rs (some cut) alt ref)
   unfolding reply
-  cut-clock b cut h k = rw (check-long b h, check-long cut k) (same (unless (whole rs alt ref) TornInput) (unless (leb (countOf rs) 32) TooMany) received (of rs (some b) alt ref) (of rs (some cut) alt ref) refl)
+  cut-clock b cut h k = rw (check-long b h, check-long cut k) (same torn (unless (leb n 32) TooMany) received (of rs (some b) alt ref) (of rs (some cut) alt ref) refl)
 
 -- ---- the altitude and the reference: one byte too many stands for every greater length
 module _ (rs : List ℕ) (clock : Option (List ℕ)) where
@@ -85,8 +92,8 @@ module _ (rs : List ℕ) (clock : Option (List ℕ)) where
   torn-by alt ref e = rw e (go (eqb (length rs % 64) 0) _)
     where
       go : (t : Bool) (later : Check) → replied (orElse (unless (t && false) TornInput) later) (of rs clock alt ref) ≡ turnedAway TornInput 0
-      go true later = without-n TornInput (countOf rs) (omega arith)
-      go false later = without-n TornInput (countOf rs) (omega arith)
+      go true later = without-n TornInput (length rs / 64) (omega arith)
+      go false later = without-n TornInput (length rs / 64) (omega arith)
 
   off : (t : Bool) → t && false ≡ false
   off true = refl

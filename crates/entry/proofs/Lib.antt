@@ -1,4 +1,5 @@
 pub mod Replies
 pub mod Written
+pub mod Unpacked
 pub mod Cut
 pub mod Outputs

@@ -1,16 +1,15 @@
 -- Document 01's whole outputs that no reception decides, by computing. Assumes nothing.
 use mathlib.Core.Path.{_≡_, refl}
 use mathlib.Core.List.{[], _∷_}
-use mathlib.Core.Option.{none, some}
 use lib.ListN.{replicate}
-use Rattle.entry.specs.Reply.{reply}
+use Rattle.entry.specs.Reply.{lent, reply}
 
 -- all four files absent: byte 07 and 175 zero bytes
-pub all-absent : reply (record { receptions = []; clock = none; altitude = none; reference = none }) ≡ record { number = 7; bytes = 7 ∷ replicate 175 0 }
-unfolding reply Rattle.inputs.specs.Inputs.checkInputs Rattle.record.specs.Record.refusal Rattle.words.specs.Words.putU32
+pub all-absent : reply (lent [] [] [] [] 0) ≡ record { number = 7; bytes = 7 ∷ replicate 175 0 }
+unfolding reply Rattle.sets.specs.Mask.has Rattle.inputs.specs.Inputs.checkInputs Rattle.record.specs.Record.refusal Rattle.words.specs.Words.putU32
 all-absent = refl
 
 -- with an empty clock.bin: byte 01 and 175 zero bytes
-pub empty-clock : reply (record { receptions = []; clock = some []; altitude = none; reference = none }) ≡ record { number = 1; bytes = 1 ∷ replicate 175 0 }
-unfolding reply Rattle.inputs.specs.Inputs.checkInputs Rattle.inputs.specs.Inputs.problemOf Rattle.record.specs.Record.refusal Rattle.words.specs.Words.putU32 Rattle.rounds.specs.Solve.solveProblem Rattle.rounds.specs.Rounds.solved Rattle.sets.specs.Sets.count
+pub empty-clock : reply (lent [] [] [] [] 1) ≡ record { number = 1; bytes = 1 ∷ replicate 175 0 }
+unfolding reply Rattle.sets.specs.Mask.has Rattle.inputs.specs.Inputs.checkInputs Rattle.inputs.specs.Inputs.problemOf Rattle.record.specs.Record.refusal Rattle.words.specs.Words.putU32 Rattle.rounds.specs.Solve.solveProblem Rattle.rounds.specs.Rounds.solved Rattle.sets.specs.Sets.count
 empty-clock = refl

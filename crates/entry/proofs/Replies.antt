@@ -1,24 +1,21 @@
 -- The reply by its parts: of an answer, of inputs that are turned away, and of a problem. Assumes nothing.
 use Prim.Native.Nat.{ℕ, _<_}
-use mathlib.Core.Path.{_≡_, refl, ap, ap₂, sym, _∙_}
+use mathlib.Core.Path.{_≡_, refl, ap, ap₂, sym, subst, _∙_}
 use mathlib.Core.Bool.{Bool, true, false}
 use mathlib.Core.List.{List}
-use mathlib.Core.Option.{Option}
 use native.Mathlib.Omega.{arith}
 use borrow.Author.Tests.{lt-leb}
 use denote.Enum.Declared.{tagOf}
-use Rattle.sets.specs.Mask.{has}
 use Rattle.problem.specs.declared.Altitude.{Altitude}
 use Rattle.problem.specs.declared.Problem.{Problem}
-use Rattle.inputs.specs.declared.Given.{Given}
 use Rattle.inputs.specs.declared.Fault.{Fault}
 use Rattle.inputs.specs.declared.Fault.the-variants.{TornInput, TooMany}
 use Rattle.inputs.specs.declared.Check.{Check}
 use Rattle.inputs.specs.declared.Check.the-variants.{Passed, Refused}
 use Rattle.inputs.specs.Faults.{numberOf, detailOf, orElse, unless}
-use Rattle.inputs.specs.Inputs.{given, countOf, whole, checkCovered, checkInputs, problemOf}
+use Rattle.inputs.specs.Inputs.{Inputs, whole, checkInputs, problemOf}
 use Rattle.inputs.proofs.Check as check
-use Rattle.inputs.proofs.Order.{is-covered}
+use Rattle.inputs.proofs.Order.{is-whole}
 use Rattle.rounds.specs.declared.answer.Answer as code
 use Rattle.rounds.specs.declared.answer.Case.{Case}
 use Rattle.rounds.specs.declared.answer.Case.the-variants as case
@@ -30,7 +27,7 @@ use Rattle.record.specs.declared.content.Fix.{Fix}
 use Rattle.record.specs.Record.{refusal}
 use Rattle.record.specs.Record as shown
 use Rattle.entry.specs.declared.Reply.{Reply}
-use Rattle.entry.specs.Reply.{lent, checked, bytesOf, problem, answered, turnedAway, replied, reply}
+use Rattle.entry.specs.Reply.{answered, turnedAway, replied, reply}
 
 -- ---- a match that took an arm with nothing bound
 pub is-passed : (k : Check) → tagOf check.the-type k ≡ 0 → k ≡ Passed
@@ -82,9 +79,9 @@ pub bare-reply
 bare-reply r fault k d n f g l h = away-reply r fault k d 0 f g h ∙ ap (made (numberOf fault)) (bare (numberOf fault) (detailOf fault) 0 n l)
 
 -- more than 32 receptions are turned away by 15 or 10
-pub many-away : (rs : List ℕ) (clock alt ref : Option (List ℕ)) (fault : Fault) → checkInputs rs clock alt ref ≡ Refused fault → 32 < countOf rs → 9 < numberOf fault
+pub many-away : (I : Inputs) (fault : Fault) → checkInputs I ≡ Refused fault → 32 < I .n → 9 < numberOf fault
 unfolding checkInputs
-many-away rs clock alt ref fault e h = go (whole rs alt ref) (rw (lt-leb (countOf rs) 32 h) at e)
+many-away I fault e h = go (whole I) (rw (lt-leb (I .n) 32 h) at e)
   where
     go : (b : Bool) → orElse (unless b TornInput) (Refused TooMany) ≡ Refused fault → 9 < numberOf fault
     go true q = let z : TooMany ≡ fault = cc in rw (← z) (omega arith)
@@ -92,33 +89,26 @@ many-away rs clock alt ref fault e h = go (whole rs alt ref) (rw (lt-leb (countO
 
 -- ---- the reply to the inputs
 
--- a clock covariance that is there
-there : (t : Bool) (b : List ℕ) → checkCovered (given t b) ≡ Passed → bytesOf (given t b) ≡ b
-there true b e = refl
-there false b e = absurd (let z : _≡_ {A = ℕ} 0 1 = cc in omega arith)
+-- the receptions of inputs that pass came whole
+abbrev pub untorn : Inputs → Inputs
+untorn I = record { whole = true; n = I .n; at = I .at; clock = I .clock; altitude = I .altitude; reference = I .reference }
 
-module _ (rs clock alt ref : List ℕ) (present : ℕ) (g : Given) (G : (g .clock ≡ has present 0) × (g .altitude ≡ has present 1) × (g .reference ≡ has present 2)) (k : Check)
-    (K : k ≡ checkInputs rs (given (g .clock) clock) (given (g .altitude) alt) (given (g .reference) ref)) where
-  same : k ≡ checked (lent rs clock alt ref present)
-  same = K ∙ rw (G .0, G .1, G .2)
+pub came-whole : (I : Inputs) → checkInputs I ≡ Passed → checkInputs (untorn I) ≡ Passed
+came-whole I e = subst (λ (w : Bool). checkInputs (record { whole = w; n = I .n; at = I .at; clock = I .clock; altitude = I .altitude; reference = I .reference }) ≡ Passed) (is-whole I e) e
 
-  pub refused-reply : (r : Reply) (fault : Fault) → k ≡ Refused fault → r ≡ turnedAway fault (countOf rs) → r ≡ reply (lent rs clock alt ref present)
+pub torn-or-whole : (I : Inputs) → problemOf (untorn I) ≡ problemOf I
+unfolding problemOf
+torn-or-whole I = refl
+
+module _ (I : Inputs) (k : Check) (K : k ≡ checkInputs I) where
+  pub refused-reply : (r : Reply) (fault : Fault) → k ≡ Refused fault → r ≡ turnedAway fault (I .n) → r ≡ reply I
   unfolding reply
-  refused-reply r fault e h = h ∙ ap (λ (c : Check). replied c (lent rs clock alt ref present)) (sym e ∙ same)
+  refused-reply r fault e h = h ∙ ap (λ (c : Check). replied c I) (sym e ∙ K)
 
-  is-problem : (p : Problem) → k ≡ Passed → p ≡ problemOf rs clock (given (g .altitude) alt) (given (g .reference) ref) → p ≡ problem (lent rs clock alt ref present)
-  is-problem p e h =
-      h
-      ∙ ap₂ (λ (s t : Bool). problemOf rs clock (given s alt) (given t ref)) (G .1) (G .2)
-      ∙ ap (λ (c : List ℕ). problemOf rs c (given (has present 1) alt) (given (has present 2) ref))
-      (sym (there (has present 0) clock (is-covered rs (given (has present 1) alt) (given (has present 2) ref) (given (has present 0) clock) (sym same ∙ e))))
-
-  pub problem-reply
-      : (r : Reply) (p : Problem) (a : Answer Fix) → k ≡ Passed → p ≡ problemOf rs clock (given (g .altitude) alt) (given (g .reference) ref) → a ≡ solveProblem p → r ≡ answered (p .n) (p .altitude) a
-      → r ≡ reply (lent rs clock alt ref present)
+  pub problem-reply : (r : Reply) (p : Problem) (a : Answer Fix) → k ≡ Passed → p ≡ problemOf I → a ≡ solveProblem p → r ≡ answered (I .n) (p .altitude) a → r ≡ reply I
   unfolding reply
   problem-reply r p a e P A h =
       h
-      ∙ ap (answered (p .n) (p .altitude)) A
-      ∙ ap (λ (q : Problem). answered (q .n) (q .altitude) (solveProblem q)) (is-problem p e P)
-      ∙ ap (λ (c : Check). replied c (lent rs clock alt ref present)) (sym e ∙ same)
+      ∙ ap (answered (I .n) (p .altitude)) A
+      ∙ ap (λ (q : Problem). answered (I .n) (q .altitude) (solveProblem q)) P
+      ∙ ap (λ (c : Check). replied c I) (sym e ∙ K)

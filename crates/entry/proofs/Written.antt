@@ -7,7 +7,7 @@ use lib.Seq.{take-at}
 use Rattle.problem.specs.declared.Problem.{Problem}
 use Rattle.inputs.specs.declared.Check.{Check}
 use Rattle.inputs.specs.declared.Check.the-variants.{Passed}
-use Rattle.inputs.specs.Inputs.{problemOf}
+use Rattle.inputs.specs.Inputs.{Inputs, checkInputs, problemOf}
 use Rattle.inputs.proofs.Order.{few}
 use Rattle.rounds.specs.Setting.{Answer}
 use Rattle.rounds.specs.Solve.{settingAt, solveProblem}
@@ -17,26 +17,26 @@ use Rattle.rounds.proofs.Found.{demand-met}
 use Rattle.record.specs.declared.content.Fix.{Fix}
 use Rattle.record.specs.Record.{stored}
 use Rattle.entry.specs.declared.Reply.{Reply}
-use Rattle.entry.specs.Reply.{Inputs, checked, problem, recordOf, replied, reply, Demanded}
+use Rattle.entry.specs.Reply.{recordOf, replied, reply, Demanded}
 
 no-other : (P : Problem) (a : Answer Fix) → Claim (rounds P) a → a ≡ solveProblem P
 unfolding solveProblem
 no-other P = only (settingAt P)
 
-module _ (I : Inputs) (passes : checked I ≡ Passed) where
-  small : problem I .n ≤ 32
+module _ (I : Inputs) (passes : checkInputs I ≡ Passed) where
+  small : problemOf I .n ≤ 32
   unfolding problemOf
-  small = few (I .receptions) (I .altitude) (I .reference) (I .clock) passes
+  small = few I passes
 
-  shown : reply I .bytes ≡ recordOf (problem I .n) (problem I .altitude) (solveProblem (problem I))
-  unfolding reply
+  shown : reply I .bytes ≡ recordOf (problemOf I .n) (problemOf I .altitude) (solveProblem (problemOf I))
+  unfolding reply problemOf
   shown = ap (λ (c : Check). replied c I .bytes) passes
 
-  pub written : (r : Reply) (out after : List ℕ) → r ≡ reply I → length (r .bytes) ≡ 176 → after ≡ stored out (r .bytes) → Demanded (problem I) after
+  pub written : (r : Reply) (out after : List ℕ) → r ≡ reply I → length (r .bytes) ≡ 176 → after ≡ stored out (r .bytes) → Demanded (problemOf I) after
   written r out after e l s =
       record {
-        answer = solveProblem (problem I);
-        demand = demand-met (problem I) small;
+        answer = solveProblem (problemOf I);
+        demand = demand-met (problemOf I) small;
         written = ap (take 176) s ∙ take-at (r .bytes) (drop 176 out) 176 l ∙ ap (λ (q : Reply). q .bytes) e ∙ shown;
-        alone = no-other (problem I);
+        alone = no-other (problemOf I);
       }

@@ -1,19 +1,21 @@
 -- What a solve answers to its four inputs, and the bytes that it leaves in the lent output. Definitions and statements only.
-use Prim.Native.Nat.{ℕ}
+use Prim.Native.Nat.{ℕ, _/_, _%_}
 use mathlib.Core.Path.{_≡_}
-use mathlib.Core.Bool.{cond}
-use mathlib.Core.List.{List, []}
-use mathlib.Core.Option.{Option, none, some}
-use lib.Dec.{ltb}
+use mathlib.Core.Bool.{true, cond}
+use mathlib.Core.List.{List}
+use lib.Dec.{eqb, ltb}
 use lib.ListN.{length, take}
 use Rattle.sets.specs.Mask.{has}
 use Rattle.problem.specs.declared.Altitude.{Altitude}
 use Rattle.problem.specs.declared.Problem.{Problem}
+use Rattle.receptions.specs.declared.Reception.{Reception}
+use Rattle.receptions.specs.Receptions.{receptionBytes, receptionAt, listedAt}
+use Rattle.inputs.specs.declared.Given.{Given}
 use Rattle.inputs.specs.declared.Fault.{Fault}
 use Rattle.inputs.specs.declared.Check.{Check}
 use Rattle.inputs.specs.declared.Check.the-variants.{Passed, Refused}
 use Rattle.inputs.specs.Faults.{numberOf, detailOf}
-use Rattle.inputs.specs.Inputs.{given, countOf, checkInputs, problemOf}
+use Rattle.inputs.specs.Inputs.{Inputs, inputsOf, checkInputs, problemOf}
 use Rattle.rounds.specs.Setting.{Answer, fix, refused, noFixedPoint}
 use Rattle.rounds.specs.Solve.{number, detail, solveProblem}
 use Rattle.rounds.specs.Demand.{rounds, Claim, Demand}
@@ -22,36 +24,20 @@ use Rattle.record.specs.Record.{refusal, stored}
 use Rattle.record.specs.Record as shown
 use Rattle.entry.specs.declared.Reply.{Reply}
 
--- ---- the inputs
+-- ---- the inputs, as a caller lends them
 
--- receptions.bin, clock.bin, altitude.bin and reference.bin. Absent receptions are empty ones.
-pub record Inputs : Type 0 where
-  pub receptions : List ℕ
-  pub clock : Option (List ℕ)
-  pub altitude : Option (List ℕ)
-  pub reference : Option (List ℕ)
+-- of `present` bit 0 says that there is a clock covariance, bit 1 an altitude and bit 2 a reference. Further bits mean nothing.
+abbrev pub given : ℕ → Given
+given present = record { clock = has present 0; altitude = has present 1; reference = has present 2 }
 
--- as a caller lends them: of `present` bit 0 says that there is a clock covariance, bit 1 an altitude and bit 2 a reference. Further bits mean nothing.
+-- the bytes of receptions.bin, clock.bin, altitude.bin and reference.bin. Absent receptions are empty ones.
 abbrev pub lent : List ℕ → List ℕ → List ℕ → List ℕ → ℕ → Inputs
 lent receptions clock altitude reference present =
-    record {
-      receptions = receptions;
-      clock = given (has present 0) clock;
-      altitude = given (has present 1) altitude;
-      reference = given (has present 2) reference;
-    }
+    inputsOf (eqb (length receptions % receptionBytes) 0) (length receptions / receptionBytes) (receptionAt receptions) (given present) clock altitude reference
 
--- what they are turned away for
-abbrev pub checked : Inputs → Check
-checked I = checkInputs (I .receptions) (I .clock) (I .altitude) (I .reference)
-
-abbrev pub bytesOf : Option (List ℕ) → List ℕ
-bytesOf none = []
-bytesOf (some bytes) = bytes
-
--- the problem that they hold where nothing turns them away
-abbrev pub problem : Inputs → Problem
-problem I = problemOf (I .receptions) (bytesOf (I .clock)) (I .altitude) (I .reference)
+-- "the caller's own list of reception records" in place of receptions.bin
+abbrev pub listed : List Reception → List ℕ → List ℕ → List ℕ → ℕ → Inputs
+listed receptions clock altitude reference present = inputsOf true (length receptions) (listedAt receptions) (given present) clock altitude reference
 
 -- ---- the reply: document 01's answer number, and the 176 bytes
 
@@ -68,11 +54,11 @@ abbrev pub turnedAway : Fault → ℕ → Reply
 turnedAway fault n = record { number = numberOf fault; bytes = refusal (numberOf fault) (detailOf fault) n }
 
 abbrev pub replied : Check → Inputs → Reply
-replied (Refused fault) I = turnedAway fault (countOf (I .receptions))
-replied Passed I = answered (problem I .n) (problem I .altitude) (solveProblem (problem I))
+replied (Refused fault) I = turnedAway fault (I .n)
+replied Passed I = answered (I .n) (problemOf I .altitude) (solveProblem (problemOf I))
 
 unfoldable pub reply : Inputs → Reply
-reply I = replied (checked I) I
+reply I = replied (checkInputs I) I
 
 -- ---- what the caller gets who lends `out`
 

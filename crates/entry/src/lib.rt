@@ -2,15 +2,17 @@
 ghost use mathlib.Core.Path.{_≡_};
 ghost use Prim.Native.Nat.{_≤_, _<_};
 ghost use lib.ListN.{length};
+ghost use Rattle.receptions.specs.Receptions.{fieldsOf, receptionIn};
 ghost use Rattle.inputs.specs.Faults.{passed, numberOf};
+ghost use Rattle.inputs.specs.Inputs.{inputsOf, checkInputs, problemOf};
 ghost use Rattle.rounds.specs.Solve.{told, refusalNumber, refusalDetail};
 ghost use Rattle.record.specs.Record as shown;
-ghost use Rattle.sets.specs.Mask.{has};
 ghost use Rattle.entry.specs.Reply as reply;
 use inputs::Check;
 use inputs::Fault;
 use inputs::Given;
 use problem::Altitude;
+use receptions::Fields;
 use rounds::Answer;
 use rounds::Case;
 use rounds::Refusal;
@@ -32,7 +34,7 @@ pub struct Reply {
 
 // Which inputs there are: bit 0 clock, bit 1 altitude, bit 2 reference.
 fn given(present: u32) -> Given
-    ensures { λ r. ⌜ (r .clock ≡ has present 0) × (r .altitude ≡ has present 1) × (r .reference ≡ has present 2) ⌝ }
+    ensures { λ r. ⌜ r ≡ reply.given present ⌝ }
 {
     Given {
         clock: sets::has(present, 0),
@@ -105,26 +107,65 @@ fn turned_away(fault: Fault, n: usize) -> Reply
     refused(number, detail, 0)
 }
 
+// The reply to receptions by field, whole or torn, and the other inputs.
 fn reply_to(
-    receptions: &[u8],
+    f: Fields,
+    whole: bool,
+    n: usize,
     clock: &[u8],
     altitude: &[u8],
     reference: &[u8],
     present: u32,
 ) -> Reply
-    ensures { λ r. ⌜ r ≡ reply.reply (reply.lent (now (receptions .entry)) (now (clock .entry)) (now (altitude .entry)) (now (reference .entry)) present) ⌝ }
+    requires { ⌜ (n ≤ 32 → f ≡ fieldsOf (receptionIn f) n) ⌝ }
+    ensures { λ r. ⌜ r ≡ reply.reply (inputsOf whole n (receptionIn f) (reply.given present) (now (clock .entry)) (now (altitude .entry)) (now (reference .entry))) ⌝ }
 {
     let g = given(present);
-    let found = inputs::check_inputs(receptions, g, clock, altitude, reference);
+    let found = inputs::check_inputs(f, whole, n, g, clock, altitude, reference);
     match found {
-        Check::Refused(fault) => turned_away(fault, receptions.len() / RECEPTION),
+        Check::Refused(fault) => turned_away(fault, n),
         Check::Passed => {
-            let p = inputs::problem_of(receptions, g, clock, altitude, reference);
-            let n = p.n as u32;
+            let p = inputs::problem_of(f, n, g, clock, altitude, reference);
             let kind = p.altitude;
-            answered(n, kind, rounds::solve_problem(p))
+            answered(n as u32, kind, rounds::solve_problem(p))
         }
     }
+}
+
+// The solve of receptions by field: `whole` says that they came whole, n how many came. Of over 32 none
+// is looked at.
+pub fn solve_fields(
+    f: Fields,
+    whole: bool,
+    n: usize,
+    clock: &[u8],
+    altitude: &[u8],
+    reference: &[u8],
+    present: u32,
+    out: &mut [u8],
+) -> u32
+    requires { ⌜ (n ≤ 32 → f ≡ fieldsOf (receptionIn f) n) ⌝ }
+    ensures answer { λ r. ⌜ r ≡ reply.answer (inputsOf whole n (receptionIn f) (reply.given present) (now (clock .entry)) (now (altitude .entry)) (now (reference .entry))) (now (out .entry)) ⌝ }
+    ensures output { λ _. ⌜ now (out .exit) ≡ reply.output (inputsOf whole n (receptionIn f) (reply.given present) (now (clock .entry)) (now (altitude .entry)) (now (reference .entry))) (now (out .entry)) ⌝ }
+    ensures demand { λ _. ⌜ (checkInputs (inputsOf whole n (receptionIn f) (reply.given present) (now (clock .entry)) (now (altitude .entry)) (now (reference .entry))) ≡ passed → 176 ≤ length (now (out .entry)) → reply.Demanded (problemOf (inputsOf whole n (receptionIn f) (reply.given present) (now (clock .entry)) (now (altitude .entry)) (now (reference .entry)))) (now (out .exit))) ⌝ }
+{
+    if out.len() < RECORD {
+        return 14;
+    }
+    let r = reply_to(f, whole, n, clock, altitude, reference, present);
+    let bytes = r.bytes;
+    record::store(out, bytes);
+    r.number
+}
+
+// How many of n receptions are unpacked: of over 32 none.
+pub fn few(n: usize) -> usize
+    ensures { λ r. ⌜ (r ≤ n) × (r ≤ 32) × (n ≤ 32 → r ≡ n) ⌝ }
+{
+    if MOST < n {
+        return 0;
+    }
+    n
 }
 
 // Solves one transmission's problem from its four inputs, and writes the record. `present` says which
@@ -139,13 +180,10 @@ pub fn solve(
 ) -> u32
     ensures answer { λ r. ⌜ r ≡ reply.answer (reply.lent (now (receptions .entry)) (now (clock .entry)) (now (altitude .entry)) (now (reference .entry)) present) (now (out .entry)) ⌝ }
     ensures output { λ _. ⌜ now (out .exit) ≡ reply.output (reply.lent (now (receptions .entry)) (now (clock .entry)) (now (altitude .entry)) (now (reference .entry)) present) (now (out .entry)) ⌝ }
-    ensures demand { λ _. ⌜ (reply.checked (reply.lent (now (receptions .entry)) (now (clock .entry)) (now (altitude .entry)) (now (reference .entry)) present) ≡ passed → 176 ≤ length (now (out .entry)) → reply.Demanded (reply.problem (reply.lent (now (receptions .entry)) (now (clock .entry)) (now (altitude .entry)) (now (reference .entry)) present)) (now (out .exit))) ⌝ }
+    ensures demand { λ _. ⌜ (checkInputs (reply.lent (now (receptions .entry)) (now (clock .entry)) (now (altitude .entry)) (now (reference .entry)) present) ≡ passed → 176 ≤ length (now (out .entry)) → reply.Demanded (problemOf (reply.lent (now (receptions .entry)) (now (clock .entry)) (now (altitude .entry)) (now (reference .entry)) present)) (now (out .exit))) ⌝ }
 {
-    if out.len() < RECORD {
-        return 14;
-    }
-    let r = reply_to(receptions, clock, altitude, reference, present);
-    let bytes = r.bytes;
-    record::store(out, bytes);
-    r.number
+    let n = receptions.len() / RECEPTION;
+    let whole = receptions.len() % RECEPTION == 0;
+    let f = receptions::of_bytes(receptions, few(n));
+    solve_fields(f, whole, n, clock, altitude, reference, present, out)
 }

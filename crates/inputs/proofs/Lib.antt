@@ -1,5 +1,5 @@
 pub mod Limits
-pub mod Filling
+pub mod Alike
 pub mod Steps
 pub mod Order
 pub mod Sound

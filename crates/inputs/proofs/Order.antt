@@ -1,10 +1,9 @@
 -- The order of the checks: which refusal comes first, and what it says that none comes. Assumes nothing.
-use Prim.Native.Nat.{ℕ, zero, suc, _*_, _%_, _<_, _≤_}
+use Prim.Native.Nat.{ℕ, zero, suc, _*_, _<_, _≤_}
 use mathlib.Core.Path.{_≡_, refl}
 use mathlib.Core.Bool.{Bool, true, false, _&&_}
 use mathlib.Core.Logic.{_⊎_, inl, inr}
 use mathlib.Core.List.{List}
-use mathlib.Core.Option.{Option}
 use native.Mathlib.Omega.{arith}
 use native.Mathlib.Nat.{eq-or-lt-of-le}
 use borrow.Author.Tests.{eqb-true, leb-true}
@@ -15,8 +14,8 @@ use Rattle.inputs.specs.declared.Fault.the-variants.{TornInput, TooMany,
 use Rattle.inputs.specs.declared.Check.{Check}
 use Rattle.inputs.specs.declared.Check.the-variants.{Passed, Refused}
 use Rattle.inputs.specs.Faults.{orElse, unless, firstTo}
-use Rattle.inputs.specs.Files.{receptionBytes, altitudeBytes, referenceBytes, receptionAt}
-use Rattle.inputs.specs.Inputs.{given, sized, countOf, whole, checkReception, checkRow, checkClock, checkAltitude, checkCovered, checkInputs}
+use Rattle.inputs.specs.Files.{altitudeBytes, referenceBytes}
+use Rattle.inputs.specs.Inputs.{Inputs, given, bytesOf, sized, whole, checkReception, checkRow, checkClock, checkAltitude, checkCovered, checkInputs}
 
 pub both-of : (a b : Bool) → a && b ≡ true → (a ≡ true) × (b ≡ true)
 both-of true true e = (refl, refl)
@@ -40,99 +39,95 @@ pub covered-by : (there : Bool) (b : List ℕ) → unless there Uncovered ≡ ch
 covered-by true b = refl
 covered-by false b = refl
 
-module _ (rs : List ℕ) (alt ref : Option (List ℕ)) where
-  pub torn-1 : eqb (length rs % receptionBytes) 0 ≡ false → whole rs alt ref ≡ false
+module _ (I : Inputs) where
+  pub torn-1 : I .whole ≡ false → whole I ≡ false
   unfolding whole
   torn-1 e = rw e
 
-  pub torn-2 : sized altitudeBytes alt ≡ false → whole rs alt ref ≡ false
+  pub torn-2 : sized altitudeBytes (I .altitude) ≡ false → whole I ≡ false
   unfolding whole
-  torn-2 e = go (eqb (length rs % receptionBytes) 0)
+  torn-2 e = go (I .whole)
     where
-      go : (a : Bool) → a && (sized altitudeBytes alt && sized referenceBytes ref) ≡ false
+      go : (a : Bool) → a && (sized altitudeBytes (I .altitude) && sized referenceBytes (I .reference)) ≡ false
       go true = rw e
       go false = refl
 
-  pub torn-3 : sized referenceBytes ref ≡ false → whole rs alt ref ≡ false
+  pub torn-3 : sized referenceBytes (I .reference) ≡ false → whole I ≡ false
   unfolding whole
-  torn-3 e = go (eqb (length rs % receptionBytes) 0) (sized altitudeBytes alt)
+  torn-3 e = go (I .whole) (sized altitudeBytes (I .altitude))
     where
-      go : (a b : Bool) → a && (b && sized referenceBytes ref) ≡ false
+      go : (a b : Bool) → a && (b && sized referenceBytes (I .reference)) ≡ false
       go true true = e
       go true false = refl
       go false b = refl
 
-  pub all-whole : eqb (length rs % receptionBytes) 0 ≡ true → sized altitudeBytes alt ≡ true → sized referenceBytes ref ≡ true → whole rs alt ref ≡ true
+  pub all-whole : I .whole ≡ true → sized altitudeBytes (I .altitude) ≡ true → sized referenceBytes (I .reference) ≡ true → whole I ≡ true
   unfolding whole
   all-whole e f g = rw (e, f, g)
 
-  module _ (clock : Option (List ℕ)) where
-    abbrev n : ℕ
-    n = countOf rs
+  -- what comes after 15 and 10
+  abbrev later : Check
+  later = orElse (firstTo (checkReception (I .at)) (I .n)) (orElse (checkClock (I .clock) (I .n)) (orElse (checkAltitude (I .altitude)) (checkCovered (I .clock))))
 
-    -- what comes after 15 and 10
-    abbrev later : Check
-    later = orElse (firstTo (checkReception (receptionAt rs)) n) (orElse (checkClock clock n) (orElse (checkAltitude alt) (checkCovered clock)))
+  pub torn : whole I ≡ false → Refused TornInput ≡ checkInputs I
+  unfolding checkInputs
+  torn e = rw e
 
-    pub torn : whole rs alt ref ≡ false → Refused TornInput ≡ checkInputs rs clock alt ref
+  pub many : whole I ≡ true → leb (I .n) 32 ≡ false → Refused TooMany ≡ checkInputs I
+  unfolding checkInputs
+  many e f = rw (e, f)
+
+  pub rest : whole I ≡ true → leb (I .n) 32 ≡ true → later ≡ checkInputs I
+  unfolding checkInputs
+  rest e f = rw (e, f)
+
+  module _ (e : checkInputs I ≡ Passed) where
+    after-torn : (unless (whole I) TornInput ≡ Passed) × (orElse (unless (leb (I .n) 32) TooMany) later ≡ Passed)
     unfolding checkInputs
-    torn e = rw e
+    after-torn = or-of (unless (whole I) TornInput) (orElse (unless (leb (I .n) 32) TooMany) later) e
 
-    pub many : whole rs alt ref ≡ true → leb n 32 ≡ false → Refused TooMany ≡ checkInputs rs clock alt ref
-    unfolding checkInputs
-    many e f = rw (e, f)
+    after-many : (unless (leb (I .n) 32) TooMany ≡ Passed) × (later ≡ Passed)
+    after-many = or-of (unless (leb (I .n) 32) TooMany) later (after-torn .1)
 
-    pub rest : whole rs alt ref ≡ true → leb n 32 ≡ true → later ≡ checkInputs rs clock alt ref
-    unfolding checkInputs
-    rest e f = rw (e, f)
+    pub few : I .n ≤ 32
+    few = leb-true (I .n) 32 (good-of _ TooMany (after-many .0))
 
-    module _ (e : checkInputs rs clock alt ref ≡ Passed) where
-      after-torn : (unless (whole rs alt ref) TornInput ≡ Passed) × (orElse (unless (leb n 32) TooMany) later ≡ Passed)
-      unfolding checkInputs
-      after-torn = or-of (unless (whole rs alt ref) TornInput) (orElse (unless (leb n 32) TooMany) later) e
+    after-receptions : (firstTo (checkReception (I .at)) (I .n) ≡ Passed) × (orElse (checkClock (I .clock) (I .n)) (orElse (checkAltitude (I .altitude)) (checkCovered (I .clock))) ≡ Passed)
+    after-receptions = or-of (firstTo (checkReception (I .at)) (I .n)) (orElse (checkClock (I .clock) (I .n)) (orElse (checkAltitude (I .altitude)) (checkCovered (I .clock)))) (after-many .1)
 
-      pub is-whole : whole rs alt ref ≡ true
-      is-whole = good-of _ TornInput (after-torn .0)
+    pub passed-receptions : firstTo (checkReception (I .at)) (I .n) ≡ Passed
+    passed-receptions = after-receptions .0
 
-      after-many : (unless (leb n 32) TooMany ≡ Passed) × (later ≡ Passed)
-      after-many = or-of (unless (leb n 32) TooMany) later (after-torn .1)
+    after-clock : (checkClock (I .clock) (I .n) ≡ Passed) × (orElse (checkAltitude (I .altitude)) (checkCovered (I .clock)) ≡ Passed)
+    after-clock = or-of (checkClock (I .clock) (I .n)) (orElse (checkAltitude (I .altitude)) (checkCovered (I .clock))) (after-receptions .1)
 
-      pub few : n ≤ 32
-      few = leb-true n 32 (good-of _ TooMany (after-many .0))
+    pub passed-clock : checkClock (I .clock) (I .n) ≡ Passed
+    passed-clock = after-clock .0
 
-      after-receptions : (firstTo (checkReception (receptionAt rs)) n ≡ Passed) × (orElse (checkClock clock n) (orElse (checkAltitude alt) (checkCovered clock)) ≡ Passed)
-      after-receptions = or-of (firstTo (checkReception (receptionAt rs)) n) (orElse (checkClock clock n) (orElse (checkAltitude alt) (checkCovered clock))) (after-many .1)
+    pub passed-altitude : checkAltitude (I .altitude) ≡ Passed
+    passed-altitude = or-of (checkAltitude (I .altitude)) (checkCovered (I .clock)) (after-clock .1) .0
 
-      pub passed-receptions : firstTo (checkReception (receptionAt rs)) n ≡ Passed
-      passed-receptions = after-receptions .0
+    pub is-covered : checkCovered (I .clock) ≡ Passed
+    is-covered = or-of (checkAltitude (I .altitude)) (checkCovered (I .clock)) (after-clock .1) .1
 
-      after-clock : (checkClock clock n ≡ Passed) × (orElse (checkAltitude alt) (checkCovered clock) ≡ Passed)
-      after-clock = or-of (checkClock clock n) (orElse (checkAltitude alt) (checkCovered clock)) (after-receptions .1)
+    parts : (I .whole ≡ true) × (sized altitudeBytes (I .altitude) && sized referenceBytes (I .reference) ≡ true)
+    unfolding whole
+    parts = both-of (I .whole) (sized altitudeBytes (I .altitude) && sized referenceBytes (I .reference)) (good-of _ TornInput (after-torn .0))
 
-      pub passed-clock : checkClock clock n ≡ Passed
-      passed-clock = after-clock .0
+    pub is-whole : I .whole ≡ true
+    is-whole = parts .0
 
-      pub passed-altitude : checkAltitude alt ≡ Passed
-      passed-altitude = or-of (checkAltitude alt) (checkCovered clock) (after-clock .1) .0
+    pub whole-altitude : sized altitudeBytes (I .altitude) ≡ true
+    whole-altitude = both-of (sized altitudeBytes (I .altitude)) (sized referenceBytes (I .reference)) (parts .1) .0
 
-      pub is-covered : checkCovered clock ≡ Passed
-      is-covered = or-of (checkAltitude alt) (checkCovered clock) (after-clock .1) .1
-
-      parts : (eqb (length rs % receptionBytes) 0 ≡ true) × (sized altitudeBytes alt && sized referenceBytes ref ≡ true)
-      unfolding whole
-      parts = both-of (eqb (length rs % receptionBytes) 0) (sized altitudeBytes alt && sized referenceBytes ref) is-whole
-
-      pub whole-altitude : sized altitudeBytes alt ≡ true
-      whole-altitude = both-of (sized altitudeBytes alt) (sized referenceBytes ref) (parts .1) .0
-
-      pub whole-reference : sized referenceBytes ref ≡ true
-      whole-reference = both-of (sized altitudeBytes alt) (sized referenceBytes ref) (parts .1) .1
+    pub whole-reference : sized referenceBytes (I .reference) ≡ true
+    whole-reference = both-of (sized altitudeBytes (I .altitude)) (sized referenceBytes (I .reference)) (parts .1) .1
 
 -- a clock that is there has its size, and its rows pass
-pub clock-of : (there : Bool) (b : List ℕ) (n : ℕ) → checkClock (given there b) n ≡ Passed → checkCovered (given there b) ≡ Passed → (length b ≡ 8 * (n * n)) × (firstTo (checkRow b n) n ≡ Passed)
+pub clock-of : (there : Bool) (b : List ℕ) (n : ℕ) → checkClock (given there b) n ≡ Passed → checkCovered (given there b) ≡ Passed → (bytesOf (given there b) ≡ b) × (length b ≡ 8 * (n * n)) × (firstTo (checkRow b n) n ≡ Passed)
 clock-of true b n e f =
     let p = or-of (unless (eqb (length b) (8 * (n * n))) ClockSize) (firstTo (checkRow b n) n) e in
-    (eqb-true (length b) (8 * (n * n)) (good-of _ ClockSize (p .0)), p .1)
+    (refl, eqb-true (length b) (8 * (n * n)) (good-of _ ClockSize (p .0)), p .1)
 clock-of false b n e f = absurd (let z : _≡_ {A = ℕ} 0 1 = cc in omega arith)
 
 -- each of the checks passes

@@ -1,6 +1,6 @@
 -- A problem that was read is in the domain: each of its fields passed its test. Assumes nothing.
 use Prim.Native.Nat.{ℕ, zero, suc, _+_, _*_, _-_, _/_, _%_, _<_, _≤_}
-use mathlib.Core.Path.{_≡_, refl}
+use mathlib.Core.Path.{_≡_, refl, ap₂, sym, subst}
 use mathlib.Core.Bool.{Bool, true, false, cond, _&&_, _||_}
 use mathlib.Core.Logic.{_⊎_, inl, inr}
 use mathlib.Core.List.{List}
@@ -10,30 +10,35 @@ use native.Mathlib.Nat.{eq-or-lt-of-le}
 use borrow.Author.Tests.{ltb-true, le-leb}
 use lib.Arith.{digits-div, digits-mod}
 use lib.Dec.{eqb}
-use lib.IntN.{pos}
-use lib.ListN.{getD, length-replicate}
+use lib.IntN.{ℤ, pos}
+use lib.ListN.{getD, length, length-replicate}
 use lib.Ieee.{Float, nan}
 use Rattle.dense.specs.Entries.{at}
 use Rattle.dense.proofs.Places.{place, room}
+use Rattle.problem.specs.declared.Altitude.{Altitude}
 use Rattle.problem.specs.declared.Altitude.the-variants.{Barometric, Gnss}
+use Rattle.problem.specs.declared.Problem.{Problem}
+use Rattle.receptions.specs.declared.Reception.{Reception}
+use Rattle.receptions.specs.declared.Fields.{Fields}
+use Rattle.receptions.specs.Receptions.{fillTo, wholes, floats, fieldsOf, receptionIn}
 use Rattle.inputs.specs.declared.Fault.the-variants.{Disorder, BadField}
 use Rattle.inputs.specs.declared.Check.the-variants.{Passed}
-use Rattle.inputs.specs.declared.Reception.{Reception}
+use Rattle.inputs.specs.declared.Given.{Given}
 use Rattle.inputs.specs.Faults.{unless, firstTo}
-use Rattle.inputs.specs.Files.{receptionAt, entryAt, kindAt, metresAt}
+use Rattle.inputs.specs.Files.{entryAt, kindAt, metresAt}
 use Rattle.inputs.specs.Domain.{goodTime, goodCoordinate, goodSite, goodZ, goodNoise, goodReception, goodEntry, goodMetres, goodAltitude}
-use Rattle.inputs.specs.Inputs.{given, countOf, ascends, checkReception, goodRowTo, checkRow, checkAltitude, checkInputs, fillTo, wholes, floats, upperAt, covarianceOf, receptionsOf, altitudeOf, problemOf}
+use Rattle.inputs.specs.Inputs.{Inputs, inputsOf, ascends, checkReception, goodRowTo, checkRow, checkAltitude, checkInputs, metresOf, upperAt, covarianceOf, bytesOf, altitudeOf, referenceOf, problemOf}
 use Rattle.inputs.specs.InDomain.{InDomain, Ascending, altitudeGood}
 use Rattle.inputs.proofs.Order.{both-of, good-of, or-of, few, passed-receptions, passed-clock, passed-altitude, is-covered, clock-of, first-of}
-use Rattle.inputs.proofs.Filling.{fill-at}
+use Rattle.receptions.proofs.Filling.{fill-at}
 
 -- ---- a reception that passes
 module _ (from : ℕ → Reception) (i : ℕ) (e : checkReception from i ≡ Passed) where
-  steps : (unless (goodReception (from i)) (BadField i) ≡ Passed) × (unless (ascends from i) (Disorder i) ≡ Passed)
+  steps : (unless (goodReception (from i)) (BadField i) ≡ Passed) × (unless (ascends (λ k. from k .id) i) (Disorder i) ≡ Passed)
   unfolding checkReception
   steps = or-of _ _ e
 
-  pub above-before : ascends from i ≡ true
+  pub above-before : ascends (λ k. from k .id) i ≡ true
   above-before = good-of _ (Disorder i) (steps .1)
 
   abbrev r : Reception
@@ -103,47 +108,76 @@ metres-good (some a) e = go (eqb (kindAt a) 1) (tested (kindAt a) (metresAt a) (
     go false f = f
 
 -- ---- all that was read
-module _ (rs : List ℕ) (there : Bool) (b : List ℕ) (alt ref : Option (List ℕ)) (e : checkInputs rs (given there b) alt ref ≡ Passed) where
-  abbrev n : ℕ
-  n = countOf rs
+module _ (n : ℕ) (from : ℕ → Reception) (g : Given) (b alt ref : List ℕ) where
+  abbrev I : Inputs
+  I = inputsOf true n from g b alt ref
 
-  abbrev from : ℕ → Reception
-  from = receptionAt rs
+  module _ (e : checkInputs I ≡ Passed) where
+    small : n ≤ 32
+    small = few I e
 
-  small : n ≤ 32
-  small = few rs alt ref (given there b) e
+    passes : (i : ℕ) → i < n → checkReception from i ≡ Passed
+    passes i h = first-of (checkReception from) n i (passed-receptions I e) h
 
-  passes : (i : ℕ) → i < n → checkReception from i ≡ Passed
-  passes i h = first-of (checkReception from) n i (passed-receptions rs alt ref (given there b) e) h
+    pub ascending : Ascending from n
+    unfolding ascends
+    ascending i h = ltb-true _ _ (above-before from (suc i) (passes (suc i) h))
 
-  pub ascending : Ascending from n
-  unfolding ascends
-  ascending i h = ltb-true _ _ (above-before from (suc i) (passes (suc i) h))
+    sites-good : (k : ℕ) → k < 3 * n → goodCoordinate (getD (fillTo (wholes 96) (λ k. getD (from (k / 3) .«site_mm») (k % 3) (pos 0)) (3 * n)) k (pos 0)) ≡ true
+    sites-good k h =
+        let s = small in
+        rw (fill-at (wholes 96) (λ k. getD (from (k / 3) .«site_mm») (k % 3) (pos 0)) (3 * n) k (pos 0) h (rw length-replicate (omega arith)))
+        (coordinate-good from (k / 3) (passes (k / 3) (omega arith)) (k % 3) (omega arith))
 
-  sites-good : (k : ℕ) → k < 3 * n → goodCoordinate (getD (fillTo (wholes 96) (λ k. getD (from (k / 3) .«site_mm») (k % 3) (pos 0)) (3 * n)) k (pos 0)) ≡ true
-  sites-good k h =
-      let s = small in
-      rw (fill-at (wholes 96) (λ k. getD (from (k / 3) .«site_mm») (k % 3) (pos 0)) (3 * n) k (pos 0) h (rw length-replicate (omega arith)))
-      (coordinate-good from (k / 3) (passes (k / 3) (omega arith)) (k % 3) (omega arith))
+    pub clock-whole : (bytesOf (I .clock) ≡ b) × (length b ≡ 8 * (n * n)) × (firstTo (checkRow b n) n ≡ Passed)
+    clock-whole = clock-of (g .clock) b n (passed-clock I e) (is-covered I e)
 
-  clock-good : (i j : ℕ) → i ≤ j → j < n → goodEntry i j (at (covarianceOf b n) n i j) ≡ true
-  clock-good i j h l =
-      let s = small in
-      let w : i < n = omega arith in
-      let p = place i j n w l in
-      let q = room n s in
-      rw (fill-at (floats 1024) (upperAt b n) (n * n) (i * n + j) nan p (rw length-replicate (omega (arith, p, q))), upper b n i j h l)
-      (entry-good b n i j (clock-of there b n (passed-clock rs alt ref (given there b) e) (is-covered rs alt ref (given there b) e) .1) h l)
+    clock-good : (i j : ℕ) → i ≤ j → j < n → goodEntry i j (at (covarianceOf (bytesOf (I .clock)) n) n i j) ≡ true
+    clock-good i j h l =
+        let s = small in
+        let w : i < n = omega arith in
+        let p = place i j n w l in
+        let q = room n s in
+        rw (clock-whole .0, fill-at (floats 1024) (upperAt b n) (n * n) (i * n + j) nan p (rw length-replicate (omega (arith, p, q))), upper b n i j h l)
+        (entry-good b n i j (clock-whole .2) h l)
 
-  pub in-domain : InDomain (problemOf rs b alt ref)
-  unfolding problemOf receptionsOf
-  in-domain =
-      record {
-        few = small;
-        times = λ i h. rw (fill-at (wholes 32) (λ i. from i .time) n i (pos 0) h (rw length-replicate (let s = small in omega arith))) (time-good from i (passes i h));
-        sites = sites-good;
-        zs = λ i h. rw (fill-at (floats 32) (λ i. from i .z) n i nan h (rw length-replicate (let s = small in omega arith))) (z-good from i (passes i h));
-        noises = λ i h. rw (fill-at (floats 32) (λ i. from i .«noise_m2») n i nan h (rw length-replicate (let s = small in omega arith))) (noise-good from i (passes i h));
-        clock = clock-good;
-        altitude = metres-good alt (passed-altitude rs alt ref (given there b) e);
-      }
+    pub in-domain : InDomain (problemOf I)
+    unfolding problemOf fieldsOf
+    in-domain =
+        record {
+          few = small;
+          times = λ i h. rw (fill-at (wholes 32) (λ i. from i .time) n i (pos 0) h (rw length-replicate (let s = small in omega arith))) (time-good from i (passes i h));
+          sites = sites-good;
+          zs = λ i h. rw (fill-at (floats 32) (λ i. from i .z) n i nan h (rw length-replicate (let s = small in omega arith))) (z-good from i (passes i h));
+          noises = λ i h. rw (fill-at (floats 32) (λ i. from i .«noise_m2») n i nan h (rw length-replicate (let s = small in omega arith))) (noise-good from i (passes i h));
+          clock = clock-good;
+          altitude = metres-good (I .altitude) (passed-altitude I e);
+        }
+
+-- ---- the problem, of its parts
+abbrev pub made : ℕ → Fields → List Float → List Float → Altitude → ℤ → Problem
+made n f site clock altitude reference =
+    record {
+      n = n;
+      time = f .time;
+      «site_mm» = f .«site_mm»;
+      site = site;
+      z = f .z;
+      «noise_m2» = f .«noise_m2»;
+      «clock_m2» = clock;
+      altitude = altitude;
+      «reference_ps» = reference;
+    }
+
+module _ (f : Fields) (n : ℕ) (g : Given) (b alt ref : List ℕ) (pre : (f ≡ fieldsOf (receptionIn f) n) × (checkInputs (inputsOf true n (receptionIn f) g b alt ref) ≡ Passed)) where
+  abbrev J : Inputs
+  J = inputsOf true n (receptionIn f) g b alt ref
+
+  pub is-problem
+      : {site clock : List Float} {altitude : Altitude} {reference : ℤ} → site ≡ metresOf (receptionIn f) n → clock ≡ covarianceOf b n → altitude ≡ altitudeOf (J .altitude) → reference ≡ referenceOf (J .reference)
+      → (made n f site clock altitude reference ≡ problemOf J) × InDomain (made n f site clock altitude reference) × Ascending (receptionIn f) n
+  unfolding problemOf
+  is-problem s c a r =
+      let e : made n f (metresOf (receptionIn f) n) (covarianceOf b n) (altitudeOf (J .altitude)) (referenceOf (J .reference)) ≡ problemOf J
+      = ap₂ (λ (h : Fields) (k : List ℕ). made n h (metresOf (receptionIn f) n) (covarianceOf k n) (altitudeOf (J .altitude)) (referenceOf (J .reference))) (pre .0) (sym (clock-whole n (receptionIn f) g b alt ref (pre .1) .0)) in
+      rw (s, c, a, r) (e, subst InDomain (sym e) (in-domain n (receptionIn f) g b alt ref (pre .1)), ascending n (receptionIn f) g b alt ref (pre .1))

@@ -1,23 +1,51 @@
--- One step of each loop and test of the checks, over variables. Assumes nothing.
+-- One step of each loop and test, over variables. Assumes nothing.
 use Prim.Native.Nat.{ℕ, zero, suc, _+_, _*_, _-_, _<_, _≤_}
-use mathlib.Core.Path.{_≡_, refl}
+use mathlib.Core.Path.{_≡_, refl, _∙_}
 use mathlib.Core.Bool.{Bool, true, _&&_}
 use mathlib.Core.List.{List}
 use native.Mathlib.Omega.{arith}
 use native.Mathlib.Numerals.{add-one}
 use borrow.Author.Tests.{eqb-true}
 use lib.Dec.{ltb}
-use lib.ListN.{length}
+use lib.IntN.{ℤ}
+use lib.ListN.{set, length}
+use lib.Ieee.{Float}
+use Rattle.dense.specs.Entries.{nth}
+use Rattle.geo.specs.Geo.{fromMm}
+use Rattle.receptions.specs.declared.Reception.{Reception}
+use Rattle.receptions.specs.declared.Fields.{Fields}
+use Rattle.receptions.specs.Receptions.{floats, receptionIn}
+use Rattle.inputs.specs.declared.Fault.the-variants.{Disorder, BadField}
 use Rattle.inputs.specs.declared.Check.{Check}
-use Rattle.inputs.specs.declared.Reception.{Reception}
-use Rattle.inputs.specs.Faults.{orElse, firstTo}
+use Rattle.inputs.specs.Faults.{orElse, unless, firstTo}
 use Rattle.inputs.specs.Files.{entryAt}
-use Rattle.inputs.specs.Domain.{goodEntry}
-use Rattle.inputs.specs.Inputs.{ascends, goodRowTo, given, sized}
+use Rattle.inputs.specs.Domain.{goodReception, goodEntry}
+use Rattle.inputs.specs.Inputs.{ascends, checkReception, goodRowTo, metresOf, given, sized}
+use Rattle.receptions.proofs.Filling.{fill-three}
 
 pub first-next : (check : ℕ → Check) (k : ℕ) → orElse (firstTo check k) (check k) ≡ firstTo check (k + 1)
 unfolding firstTo
 first-next check k = rw add-one
+
+pub check-next
+    : (f : Fields) (i : ℕ) {r : Reception} {found found′ check : Check} {above : Bool}
+    → found ≡ firstTo (checkReception (receptionIn f)) i
+    → r ≡ receptionIn f i
+    → above ≡ ascends (λ k. receptionIn f k .id) i
+    → check ≡ orElse (unless (goodReception r) (BadField i)) (unless above (Disorder i))
+    → found′ ≡ orElse found check
+    → found′ ≡ firstTo (checkReception (receptionIn f)) (i + 1)
+unfolding checkReception
+check-next f i e r a c h = h ∙ rw (e, c, r, a) (first-next (checkReception (receptionIn f)) i)
+
+pub metres-next
+    : (f : Fields) (i : ℕ) {site : List ℤ} {out out′ metres : List Float}
+    → out ≡ metresOf (receptionIn f) i
+    → site ≡ receptionIn f i .«site_mm»
+    → metres ≡ fromMm site
+    → out′ ≡ set (set (set out (3 * i) (nth metres 0)) (3 * i + 1) (nth metres 1)) (3 * i + 2) (nth metres 2)
+    → out′ ≡ metresOf (receptionIn f) (i + 1)
+metres-next f i e s m h = h ∙ rw (e, m, s) (fill-three (floats 96) (λ i a. nth (fromMm (receptionIn f i .«site_mm»)) a) i)
 
 pub row-start : (clock : List ℕ) (n i : ℕ) → true ≡ goodRowTo clock n i (i - i)
 unfolding goodRowTo
@@ -30,14 +58,14 @@ row-next clock n i j h =
     let d : i + (j - i) ≡ j = omega arith in
     rw (e, d)
 
-pub ascends-zero : (at : ℕ → Reception) (i : ℕ) → i ≡ 0 → true ≡ ascends at i
+pub ascends-zero : (id : ℕ → ℕ) (i : ℕ) → i ≡ 0 → true ≡ ascends id i
 unfolding ascends
-ascends-zero at i e = rw e
+ascends-zero id i e = rw e
 
-pub ascends-next : (at : ℕ → Reception) (i : ℕ) → (i ≡ 0 → ⊥) → ltb (at (i - 1) .id) (at i .id) ≡ ascends at i
+pub ascends-next : (id : ℕ → ℕ) (i : ℕ) → (i ≡ 0 → ⊥) → ltb (id (i - 1)) (id i) ≡ ascends id i
 unfolding ascends
-ascends-next at zero h = absurd (h refl)
-ascends-next at (suc i) h = let e : suc i - 1 ≡ i = omega arith in rw e
+ascends-next id zero h = absurd (h refl)
+ascends-next id (suc i) h = let e : suc i - 1 ≡ i = omega arith in rw e
 
 pub sized-there : (size : ℕ) (there : Bool) (b : List ℕ) → there ≡ true → sized size (given there b) ≡ true → length b ≡ size
 sized-there size there b t e = eqb-true (length b) size (rw t at e)

@@ -8,7 +8,7 @@ use lib.ListN.{getD}
 use lib.Signed.{leZ}
 use lib.Ieee.{Float, le, neg}
 use Rattle.binary64.specs.Steps.{nought, decimal}
-use Rattle.inputs.specs.declared.Reception.{Reception}
+use Rattle.receptions.specs.declared.Reception.{Reception}
 
 abbrev pub between : ℤ → ℤ → ℤ → Bool
 between low high x = leZ low x && leZ x high

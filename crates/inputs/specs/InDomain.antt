@@ -8,7 +8,7 @@ use Rattle.dense.specs.Entries.{nth, at}
 use Rattle.problem.specs.declared.Altitude.{Altitude}
 use Rattle.problem.specs.declared.Altitude.the-variants.{None, Barometric, Gnss}
 use Rattle.problem.specs.declared.Problem.{Problem}
-use Rattle.inputs.specs.declared.Reception.{Reception}
+use Rattle.receptions.specs.declared.Reception.{Reception}
 use Rattle.inputs.specs.Domain.{goodTime, goodCoordinate, goodZ, goodNoise, goodEntry, goodMetres}
 
 abbrev pub altitudeGood : Altitude → Bool

@@ -1,11 +1,11 @@
 -- The four inputs of a solve: the refusal that they get, and the problem that they hold where they get none. Definitions only.
 use mathlib.Core.Bool.{Bool, true, cond, _&&_}
-use mathlib.Core.List.{List}
+use mathlib.Core.List.{List, []}
 use mathlib.Core.Option.{Option, none, some}
 use Prim.Native.Nat.{ℕ, zero, suc, _+_, _*_, _-_, _/_, _%_}
 use lib.Dec.{leb, ltb, eqb}
 use lib.IntN.{ℤ, pos}
-use lib.ListN.{getD, set, length, replicate}
+use lib.ListN.{length}
 use lib.Ieee.{Float}
 use Rattle.binary64.specs.Steps.{nought}
 use Rattle.dense.specs.Entries.{nth}
@@ -14,42 +14,59 @@ use Rattle.words.specs.Words.{i64At}
 use Rattle.problem.specs.declared.Altitude.{Altitude}
 use Rattle.problem.specs.declared.Altitude.the-variants.{None, Barometric, Gnss}
 use Rattle.problem.specs.declared.Problem.{Problem}
+use Rattle.receptions.specs.declared.Reception.{Reception}
+use Rattle.receptions.specs.Receptions.{fillTo, floats, fieldsOf}
 use Rattle.inputs.specs.declared.Fault.the-variants.{TornInput, TooMany, Disorder, BadField, ClockSize, Uncovered}
 use Rattle.inputs.specs.declared.Check.{Check}
 use Rattle.inputs.specs.declared.Check.the-variants.{Passed, Refused}
-use Rattle.inputs.specs.declared.Reception.{Reception}
-use Rattle.inputs.specs.declared.Receptions.{Receptions}
+use Rattle.inputs.specs.declared.Given.{Given}
 use Rattle.inputs.specs.Faults.{orElse, unless, firstTo}
-use Rattle.inputs.specs.Files.{receptionBytes, altitudeBytes, referenceBytes, receptionAt, entryAt, kindAt, metresAt}
+use Rattle.inputs.specs.Files.{altitudeBytes, referenceBytes, entryAt, kindAt, metresAt}
 use Rattle.inputs.specs.Domain.{goodReception, goodEntry, goodAltitude}
+
+-- the receptions (whether they came whole, how many, and each), and the bytes of clock.bin, altitude.bin and reference.bin
+pub record Inputs : Type 0 where
+  pub whole : Bool
+  pub n : ℕ
+  pub at : ℕ → Reception
+  pub clock : Option (List ℕ)
+  pub altitude : Option (List ℕ)
+  pub reference : Option (List ℕ)
 
 -- an input that may be absent
 abbrev pub given : Bool → List ℕ → Option (List ℕ)
 given there bytes = cond there (some bytes) none
 
+abbrev pub inputsOf : Bool → ℕ → (ℕ → Reception) → Given → List ℕ → List ℕ → List ℕ → Inputs
+inputsOf whole n at g clock altitude reference =
+    record {
+      whole = whole;
+      n = n;
+      at = at;
+      clock = given (g .clock) clock;
+      altitude = given (g .altitude) altitude;
+      reference = given (g .reference) reference;
+    }
+
+-- ---- what they are turned away for
+
 abbrev pub sized : ℕ → Option (List ℕ) → Bool
 sized size none = true
 sized size (some bytes) = eqb (length bytes) size
 
--- n, the number of receptions
-abbrev pub countOf : List ℕ → ℕ
-countOf receptions = length receptions / receptionBytes
-
--- ---- what they are turned away for
-
 -- 15: "receptions not a multiple of 64, altitude not 16, reference not 8 bytes"
-unfoldable pub whole : List ℕ → Option (List ℕ) → Option (List ℕ) → Bool
-whole receptions altitude reference = eqb (length receptions % receptionBytes) 0 && (sized altitudeBytes altitude && sized referenceBytes reference)
+unfoldable pub whole : Inputs → Bool
+whole I = I .whole && (sized altitudeBytes (I .altitude) && sized referenceBytes (I .reference))
 
 -- 11: "identity not above the one before"
-unfoldable pub ascends : (ℕ → Reception) → ℕ → Bool
-ascends at zero = true
-ascends at (suc i) = ltb (at i .id) (at (suc i) .id)
+unfoldable pub ascends : (ℕ → ℕ) → ℕ → Bool
+ascends id zero = true
+ascends id (suc i) = ltb (id i) (id (suc i))
 
 -- "receptions one by one, 12 before 11": reception i
 unfoldable pub checkReception : (ℕ → Reception) → ℕ → Check
 unfolding goodReception ascends
-checkReception at i = orElse (unless (goodReception (at i)) (BadField i)) (unless (ascends at i) (Disorder i))
+checkReception at i = orElse (unless (goodReception (at i)) (BadField i)) (unless (ascends (λ k. at k .id) i) (Disorder i))
 
 -- the first k entries of row i from the diagonal on. "Clock entries left of the diagonal are never read."
 unfoldable pub goodRowTo : List ℕ → ℕ → ℕ → ℕ → Bool
@@ -79,30 +96,33 @@ checkCovered none = Refused Uncovered
 checkCovered (some clock) = Passed
 
 -- "Order: 14, 15, 10; receptions one by one, 12 before 11; 13; clock entries by rows; altitude; then the Rust's order, where 7 comes first." The output's 14 is the caller's.
-unfoldable pub checkInputs : List ℕ → Option (List ℕ) → Option (List ℕ) → Option (List ℕ) → Check
+unfoldable pub checkInputs : Inputs → Check
 unfolding whole firstTo checkReception goodRowTo goodAltitude
-checkInputs receptions clock altitude reference =
-    let n = countOf receptions in
-    orElse (unless (whole receptions altitude reference) TornInput)
-    (orElse (unless (leb n 32) TooMany)
-    (orElse (firstTo (checkReception (receptionAt receptions)) n)
-    (orElse (checkClock clock n)
-    (orElse (checkAltitude altitude)
-    (checkCovered clock)))))
+checkInputs I =
+    orElse (unless (whole I) TornInput)
+    (orElse (unless (leb (I .n) 32) TooMany)
+    (orElse (firstTo (checkReception (I .at)) (I .n))
+    (orElse (checkClock (I .clock) (I .n))
+    (orElse (checkAltitude (I .altitude))
+    (checkCovered (I .clock))))))
 
 -- ---- the problem
 
--- the array a with f 0 to f (k - 1) at its start
-unfoldable pub fillTo : {A : Type 0} → List A → (ℕ → A) → ℕ → List A
-fillTo a f zero = a
-fillTo a f (suc k) = set (fillTo a f k) k (f k)
+-- "Metres of a site come by `from_mm`.": of the first n receptions
+abbrev pub metresOf : (ℕ → Reception) → ℕ → List Float
+metresOf at n = fillTo (floats 96) (λ k. nth (fromMm (at (k / 3) .«site_mm»)) (k % 3)) (3 * n)
 
--- arrays of zeros
-abbrev pub wholes : ℕ → List ℤ
-wholes size = replicate size (pos 0)
+-- entry k of the clock covariance, row by row: 0 left of the diagonal
+unfoldable pub upperAt : List ℕ → ℕ → ℕ → Float
+unfolding entryAt
+upperAt clock n k = cond (leb (k / n) (k % n)) (entryAt clock n (k / n) (k % n)) nought
 
-abbrev pub floats : ℕ → List Float
-floats size = replicate size nought
+abbrev pub covarianceOf : List ℕ → ℕ → List Float
+covarianceOf clock n = fillTo (floats 1024) (upperAt clock n) (n * n)
+
+abbrev pub bytesOf : Option (List ℕ) → List ℕ
+bytesOf none = []
+bytesOf (some bytes) = bytes
 
 abbrev pub altitudeOf : Option (List ℕ) → Altitude
 altitudeOf none = None
@@ -113,39 +133,20 @@ abbrev pub referenceOf : Option (List ℕ) → ℤ
 referenceOf none = pos 0
 referenceOf (some reference) = i64At reference 0
 
--- the first n receptions, arrays by field: three coordinates a site, and zeros past them. "Metres of a site come by `from_mm`."
-unfoldable pub receptionsOf : (ℕ → Reception) → ℕ → Receptions
-unfolding fillTo
-receptionsOf at n =
-    record {
-      time = fillTo (wholes 32) (λ i. at i .time) n;
-      «site_mm» = fillTo (wholes 96) (λ k. getD (at (k / 3) .«site_mm») (k % 3) (pos 0)) (3 * n);
-      site = fillTo (floats 96) (λ k. nth (fromMm (at (k / 3) .«site_mm»)) (k % 3)) (3 * n);
-      z = fillTo (floats 32) (λ i. at i .z) n;
-      «noise_m2» = fillTo (floats 32) (λ i. at i .«noise_m2») n;
-    }
-
--- entry k of the clock covariance, row by row: 0 left of the diagonal
-unfoldable pub upperAt : List ℕ → ℕ → ℕ → Float
-unfolding entryAt
-upperAt clock n k = cond (leb (k / n) (k % n)) (entryAt clock n (k / n) (k % n)) nought
-
-abbrev pub covarianceOf : List ℕ → ℕ → List Float
-covarianceOf clock n = fillTo (floats 1024) (upperAt clock n) (n * n)
-
-unfoldable pub problemOf : List ℕ → List ℕ → Option (List ℕ) → Option (List ℕ) → Problem
-unfolding receptionsOf fillTo upperAt
-problemOf receptions clock altitude reference =
-    let n = countOf receptions in
-    let r = receptionsOf (receptionAt receptions) n in
+-- where nothing turns them away
+unfoldable pub problemOf : Inputs → Problem
+unfolding fieldsOf fillTo upperAt
+problemOf I =
+    let n = I .n in
+    let f = fieldsOf (I .at) n in
     record {
       n = n;
-      time = r .time;
-      «site_mm» = r .«site_mm»;
-      site = r .site;
-      z = r .z;
-      «noise_m2» = r .«noise_m2»;
-      «clock_m2» = covarianceOf clock n;
-      altitude = altitudeOf altitude;
-      «reference_ps» = referenceOf reference;
+      time = f .time;
+      «site_mm» = f .«site_mm»;
+      site = metresOf (I .at) n;
+      z = f .z;
+      «noise_m2» = f .«noise_m2»;
+      «clock_m2» = covarianceOf (bytesOf (I .clock)) n;
+      altitude = altitudeOf (I .altitude);
+      «reference_ps» = referenceOf (I .reference);
     }

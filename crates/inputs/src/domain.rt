@@ -2,7 +2,7 @@
 ghost use mathlib.Core.Path.{_≡_};
 ghost use mathlib.Core.Bool.{_&&_};
 ghost use Rattle.inputs.specs.Domain as domain;
-use crate::Reception;
+use receptions::Reception;
 
 // Picoseconds, millimetres, metres, square metres and metres, by document 01.
 const TIME: i64 = 10_000_000_000_000;

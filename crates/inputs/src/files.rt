@@ -1,44 +1,13 @@
-// Where the fields of document 01's files stand.
+// Where the fields of clock.bin and altitude.bin stand.
 ghost use mathlib.Core.Path.{_≡_};
-ghost use Prim.Native.Nat.{_+_, _*_, _<_, _≤_};
+ghost use Prim.Native.Nat.{_*_, _<_, _≤_};
 ghost use lib.ListN.{length};
 ghost use Rattle.inputs.specs.Files as files;
-use crate::Reception;
-
-// The bytes of a reception.
-pub const RECEPTION: usize = 64;
 
 // The bytes of altitude.bin and of reference.bin.
 pub const ALTITUDE: usize = 16;
 
 pub const REFERENCE: usize = 8;
-
-// The identity of reception i.
-pub fn id_at(receptions: &[u8], i: usize) -> u64
-    requires { ⌜ files.receptionBytes * i + files.receptionBytes ≤ length (now receptions) ⌝ }
-    ensures { λ r. ⌜ r ≡ files.receptionAt (now (receptions .entry)) i .id ⌝ }
-{
-    words::u64_at(receptions, RECEPTION * i)
-}
-
-pub fn reception_at(receptions: &[u8], i: usize) -> Reception
-    requires { ⌜ files.receptionBytes * i + files.receptionBytes ≤ length (now receptions) ⌝ }
-    ensures { λ r. ⌜ r ≡ files.receptionAt (now (receptions .entry)) i ⌝ }
-{
-    let at = RECEPTION * i;
-    let x = words::i64_at(receptions, at + 16);
-    let y = words::i64_at(receptions, at + 24);
-    let z = words::i64_at(receptions, at + 32);
-    let site = [x, y, z];
-    Reception {
-        id: words::u64_at(receptions, at),
-        time: words::i64_at(receptions, at + 8),
-        site_mm: site,
-        z: words::f64_at(receptions, at + 40),
-        noise_m2: words::f64_at(receptions, at + 48),
-        filler: words::u64_at(receptions, at + 56),
-    }
-}
 
 // The clock covariance of receptions i and j of n.
 pub fn entry_at(clock: &[u8], n: usize, i: usize, j: usize) -> f64

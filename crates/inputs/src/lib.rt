@@ -4,16 +4,22 @@ mod files;
 
 ghost use mathlib.Core.Path.{_≡_};
 ghost use mathlib.Core.Bool.{true};
+ghost use mathlib.Core.List.{[], _∷_};
 ghost use Prim.Native.Nat.{_+_, _*_, _<_, _≤_};
 ghost use lib.IntN.{pos};
 ghost use lib.ListN.{length, set, getD};
 ghost use Rattle.dense.specs.Entries.{nth};
+ghost use Rattle.receptions.specs.Receptions.{fieldsOf, receptionIn};
+ghost use Rattle.inputs.specs.declared.Fault.the-variants.{Disorder, BadField};
 ghost use Rattle.inputs.specs.Faults as faults;
 ghost use Rattle.inputs.specs.Files as files;
+ghost use Rattle.inputs.specs.Domain.{goodReception};
 ghost use Rattle.inputs.specs.Inputs as inputs;
 ghost use Rattle.inputs.specs.InDomain.{InDomain, Ascending};
 use problem::Altitude;
 use problem::Problem;
+use receptions::Fields;
+use receptions::Reception;
 
 // What is wrong with the inputs. A bad field's number is the place of its reception, 100 and the
 // row of its clock entry, or 200 for the altitude; a disorder's is the place of the reception whose
@@ -37,25 +43,6 @@ pub struct Given {
     pub clock: bool,
     pub altitude: bool,
     pub reference: bool,
-}
-
-// A reception as its bytes have it: `Item` of solve.rs, and eight bytes that are to be zero.
-pub struct Reception {
-    pub id: u64,
-    pub time: i64,
-    pub site_mm: [i64; 3],
-    pub z: f64,
-    pub noise_m2: f64,
-    pub filler: u64,
-}
-
-// The receptions of a problem, as arrays by field.
-struct Receptions {
-    time: [i64; 32],
-    site_mm: [i64; 96],
-    site: [f64; 96],
-    z: [f64; 32],
-    noise_m2: [f64; 32],
 }
 
 // Document 01's number of a refusal.
@@ -105,35 +92,54 @@ fn unless(good: bool, fault: Fault) -> Check
     Check::Refused(fault)
 }
 
+// The three coordinates of site i.
+fn site_in(mm: &[i64; 96], i: usize) -> [i64; 3]
+    requires { ⌜ i < 32 ⌝ }
+    ensures { λ r. ⌜ r ≡ getD (now (mm .entry)) (3 * i) (pos 0) ∷ getD (now (mm .entry)) (3 * i + 1) (pos 0) ∷ getD (now (mm .entry)) (3 * i + 2) (pos 0) ∷ [] ⌝ }
+{
+    let at = 3 * i;
+    [mm[at], mm[at + 1], mm[at + 2]]
+}
+
 // Whether the identity of reception i is above the one before.
-fn ascends(receptions: &[u8], i: usize) -> bool
-    requires { ⌜ files.receptionBytes * i + files.receptionBytes ≤ length (now receptions) ⌝ }
-    ensures { λ r. ⌜ r ≡ inputs.ascends (files.receptionAt (now (receptions .entry))) i ⌝ }
+fn ascends(id: &[u64; 32], i: usize) -> bool
+    requires { ⌜ i < 32 ⌝ }
+    ensures { λ r. ⌜ r ≡ inputs.ascends (λ k. getD (now (id .entry)) k 0) i ⌝ }
 {
     if i == 0 {
         return true;
     }
-    files::id_at(receptions, i - 1) < files::id_at(receptions, i)
+    id[i - 1] < id[i]
 }
 
-fn check_reception(receptions: &[u8], i: usize) -> Check
-    requires { ⌜ (files.receptionBytes * i + files.receptionBytes ≤ length (now receptions)) × (i < 32) ⌝ }
-    ensures { λ r. ⌜ r ≡ inputs.checkReception (files.receptionAt (now (receptions .entry))) i ⌝ }
+// Reception i, whose identity is above the one before or not.
+fn check_reception(r: Reception, above: bool, i: usize) -> Check
+    requires { ⌜ i < 32 ⌝ }
+    ensures { λ c. ⌜ c ≡ faults.orElse (faults.unless (goodReception r) (BadField i)) (faults.unless above (Disorder i)) ⌝ }
 {
-    let r = files::reception_at(receptions, i);
     let place = i as u32;
     let field = unless(domain::good_reception(r), Fault::BadField(place));
-    let order = unless(ascends(receptions, i), Fault::Disorder(place));
+    let order = unless(above, Fault::Disorder(place));
     or_else(field, order)
 }
 
-fn check_receptions(receptions: &[u8], n: usize) -> Check
-    requires { ⌜ (files.receptionBytes * n ≤ length (now receptions)) × (n ≤ 32) ⌝ }
-    ensures { λ r. ⌜ r ≡ faults.firstTo (inputs.checkReception (files.receptionAt (now (receptions .entry)))) n ⌝ }
+fn check_receptions(f: Fields, n: usize) -> Check
+    requires { ⌜ n ≤ 32 ⌝ }
+    ensures { λ r. ⌜ r ≡ faults.firstTo (inputs.checkReception (receptionIn f)) n ⌝ }
 {
     let mut found = Check::Passed;
     for i in 0..n {
-        found = or_else(found, check_reception(receptions, i));
+        let site = site_in(&f.site_mm, i);
+        let r = Reception {
+            id: f.id[i],
+            time: f.time[i],
+            site_mm: site,
+            z: f.z[i],
+            noise_m2: f.noise_m2[i],
+            filler: f.filler[i],
+        };
+        let above = ascends(&f.id, i);
+        found = or_else(found, check_reception(r, above, i));
     }
     found
 }
@@ -204,16 +210,19 @@ fn sized(there: bool, bytes: &[u8], size: usize) -> bool
 }
 
 // What document 01 turns the inputs away for, in its order. Its 14 comes before, with the output.
+// `whole` says that the receptions came whole; of over 32 none is read.
 pub fn check_inputs(
-    receptions: &[u8],
+    f: Fields,
+    whole: bool,
+    n: usize,
     g: Given,
     clock: &[u8],
     altitude: &[u8],
     reference: &[u8],
 ) -> Check
-    ensures { λ r. ⌜ r ≡ inputs.checkInputs (now (receptions .entry)) (inputs.given (g .clock) (now (clock .entry))) (inputs.given (g .altitude) (now (altitude .entry))) (inputs.given (g .reference) (now (reference .entry))) ⌝ }
+    ensures { λ r. ⌜ r ≡ inputs.checkInputs (inputs.inputsOf whole n (receptionIn f) g (now (clock .entry)) (now (altitude .entry)) (now (reference .entry))) ⌝ }
 {
-    if receptions.len() % files::RECEPTION != 0 {
+    if !whole {
         return Check::Refused(Fault::TornInput);
     }
     if !sized(g.altitude, altitude, files::ALTITUDE) {
@@ -222,25 +231,14 @@ pub fn check_inputs(
     if !sized(g.reference, reference, files::REFERENCE) {
         return Check::Refused(Fault::TornInput);
     }
-    let n = receptions.len() / files::RECEPTION;
     if 32 < n {
         return Check::Refused(Fault::TooMany);
     }
-    let first = check_receptions(receptions, n);
+    let first = check_receptions(f, n);
     let second = check_clock(g.clock, clock, n);
     let third = check_altitude(g.altitude, altitude);
     let last = unless(g.clock, Fault::Uncovered);
     or_else(first, or_else(second, or_else(third, last)))
-}
-
-fn put_mm(out: &mut [i64; 96], i: usize, site: [i64; 3])
-    requires { ⌜ i < 32 ⌝ }
-    ensures { λ _. ⌜ now (out .exit) ≡ set (set (set (now (out .entry)) (3 * i) (getD site 0 (pos 0))) (3 * i + 1) (getD site 1 (pos 0))) (3 * i + 2) (getD site 2 (pos 0)) ⌝ }
-{
-    let at = 3 * i;
-    out[at] = site[0];
-    out[at + 1] = site[1];
-    out[at + 2] = site[2];
 }
 
 fn put_metres(out: &mut [f64; 96], i: usize, site: [f64; 3])
@@ -253,32 +251,17 @@ fn put_metres(out: &mut [f64; 96], i: usize, site: [f64; 3])
     out[at + 2] = site[2];
 }
 
-fn receptions_of(receptions: &[u8], n: usize) -> Receptions
-    requires { ⌜ (files.receptionBytes * n ≤ length (now receptions)) × (n ≤ 32) ⌝ }
-    ensures { λ r. ⌜ r ≡ inputs.receptionsOf (files.receptionAt (now (receptions .entry))) n ⌝ }
+// The metres of the first n sites.
+fn metres_of(f: Fields, n: usize) -> [f64; 96]
+    requires { ⌜ n ≤ 32 ⌝ }
+    ensures { λ r. ⌜ r ≡ inputs.metresOf (receptionIn f) n ⌝ }
 {
-    let mut time = [0i64; 32];
-    let mut site_mm = [0i64; 96];
-    let mut site = [0.0; 96];
-    let mut z = [0.0; 32];
-    let mut noise_m2 = [0.0; 32];
+    let mut out = [0.0; 96];
     for i in 0..n {
-        let r = files::reception_at(receptions, i);
-        let t = r.time;
-        let mm = r.site_mm;
-        time[i] = t;
-        put_mm(&mut site_mm, i, mm);
-        put_metres(&mut site, i, geo::from_mm(mm));
-        z[i] = r.z;
-        noise_m2[i] = r.noise_m2;
+        let site = site_in(&f.site_mm, i);
+        put_metres(&mut out, i, geo::from_mm(site));
     }
-    Receptions {
-        time,
-        site_mm,
-        site,
-        z,
-        noise_m2,
-    }
+    out
 }
 
 // Entry k of the clock covariance, row by row: 0 left of the diagonal, where nothing is read.
@@ -332,25 +315,24 @@ fn reference_of(there: bool, reference: &[u8]) -> i64
 
 // The problem of inputs that nothing is wrong with.
 pub fn problem_of(
-    receptions: &[u8],
+    f: Fields,
+    n: usize,
     g: Given,
     clock: &[u8],
     altitude: &[u8],
     reference: &[u8],
 ) -> Problem
-    requires { ⌜ inputs.checkInputs (now receptions) (inputs.given (g .clock) (now clock)) (inputs.given (g .altitude) (now altitude)) (inputs.given (g .reference) (now reference)) ≡ faults.passed ⌝ }
-    ensures { λ r. ⌜ (r ≡ inputs.problemOf (now (receptions .entry)) (now (clock .entry)) (inputs.given (g .altitude) (now (altitude .entry))) (inputs.given (g .reference) (now (reference .entry)))) × InDomain r × Ascending (files.receptionAt (now (receptions .entry))) (r .n) ⌝ }
+    requires { ⌜ (f ≡ fieldsOf (receptionIn f) n) × (inputs.checkInputs (inputs.inputsOf true n (receptionIn f) g (now clock) (now altitude) (now reference)) ≡ faults.passed) ⌝ }
+    ensures { λ r. ⌜ (r ≡ inputs.problemOf (inputs.inputsOf true n (receptionIn f) g (now (clock .entry)) (now (altitude .entry)) (now (reference .entry)))) × InDomain r × Ascending (receptionIn f) n ⌝ }
 {
-    let n = receptions.len() / files::RECEPTION;
-    let r = receptions_of(receptions, n);
+    let site = metres_of(f, n);
     let clock_m2 = covariance_of(clock, n);
     let given_altitude = altitude_of(g.altitude, altitude);
     let reference_ps = reference_of(g.reference, reference);
-    let time = r.time;
-    let site_mm = r.site_mm;
-    let site = r.site;
-    let z = r.z;
-    let noise_m2 = r.noise_m2;
+    let time = f.time;
+    let site_mm = f.site_mm;
+    let z = f.z;
+    let noise_m2 = f.noise_m2;
     Problem {
         n,
         time,

@@ -3,6 +3,7 @@
 mod solve;
 
 pub use solve::mlat_solve;
+pub use solve::mlat_solve_receptions;
 ghost use mathlib.Core.Path.{_≡_};
 ghost use mathlib.Core.List.{[], _∷_};
 ghost use Rattle.binary64.specs.Root.{root};

@@ -3,12 +3,15 @@
 // bytes of the files: the four lengths (receptions, clock, altitude, reference; 2^64 - 1 for a file
 // that is absent), then number and detail of the refusal, or 0 and 0 and the number of receptions.
 // Prints how many cases were compared and how many differ.
-ghost use Prim.Native.Nat.{_≤_};
+ghost use Prim.Native.Nat.{_*_, _≤_};
 ghost use lib.ListN.{length};
+ghost use mathlib.Core.Path.{_≡_};
+ghost use Rattle.receptions.specs.Receptions.{receptionBytes, receptionAt, fieldsOf};
 use inputs::Check;
 use inputs::Given;
 use libc::STDIN_FILENO;
 use libc::STDOUT_FILENO;
+use receptions::Fields;
 
 // The longest file of a case: the clock covariance of 32 receptions and a word.
 const LONGEST: usize = 8200;
@@ -32,6 +35,17 @@ fn read(bytes: &mut [u8], n: usize) -> bool
     io::read_full(STDIN_FILENO, &mut bytes[..n]) == n
 }
 
+// n receptions by field, where they are no more than 32.
+fn unpacked(bytes: &[u8], n: usize) -> Fields
+    requires { ⌜ receptionBytes * n ≤ length (now bytes) ⌝ }
+    ensures { λ r. ⌜ (n ≤ 32 → r ≡ fieldsOf (receptionAt (now (bytes .entry))) n) ⌝ }
+{
+    if n <= 32 {
+        return receptions::of_bytes(bytes, n);
+    }
+    receptions::of_bytes(bytes, 0)
+}
+
 // Whether the inputs get the answer that is expected of them.
 fn answers(
     receptions: &[u8],
@@ -42,7 +56,10 @@ fn answers(
     header: &[u8; 64],
 ) -> bool {
     let number = words::u64_at(header, 32);
-    let check = inputs::check_inputs(receptions, g, clock, altitude, reference);
+    let n = receptions.len() / 64;
+    let whole = receptions.len() % 64 == 0;
+    let f = unpacked(receptions, n);
+    let check = inputs::check_inputs(f, whole, n, g, clock, altitude, reference);
     match check {
         Check::Refused(fault) => {
             if number != inputs::number_of(fault) as u64 {
@@ -54,7 +71,7 @@ fn answers(
             if number != 0 {
                 return false;
             }
-            let problem = inputs::problem_of(receptions, g, clock, altitude, reference);
+            let problem = inputs::problem_of(f, n, g, clock, altitude, reference);
             words::u64_at(header, 48) == problem.n as u64
         }
     }

@@ -1,44 +1,37 @@
--- `entry::solve` meets its contract: the answer and the output are the reply's, and demand 3 holds of its bytes (`Written`). Assumes nothing.
+-- `entry::solve` meets its contract. `entry::solve` meets its contract: its receptions by field get the reply of its bytes (`Unpacked`). Assumes nothing. Assumes nothing.
 use borrow.Author.Needs.{needs}
-use mathlib.Core.Path.{_≡_, ap, _∙_}
+use Rattle.receptions.specs.Receptions.{fieldsOf, receptionAt}
+use mathlib.Core.Path.{ap, _∙_}
 use native.Mathlib.Omega.{arith}
-use borrow.Author.Tests.{lt-ltb, le-ltb}
-use lib.ListN.{length}
-use Rattle.record.specs.Record.{stored}
-use Rattle.entry.specs.declared.Reply.{Reply}
-use Rattle.entry.specs.Reply.{lent}
-use Rattle.entry.proofs.Written.{written}
+use Rattle.inputs.proofs.Alike.{nothing-else}
+use Rattle.entry.specs.Reply.{given}
+use Rattle.entry.proofs.Unpacked.{solved}
 use Rattle.entry.proofs.solve.Statement.{statement}
 use Rattle.entry.proofs.solve.Tie as tie
 
-returns : tie.Need-returns
-returns c = (rw (lt-ltb (length (c .before .before .before .before .before .before .args .out .now)) 176 (c .if1 .taken)), (rw (lt-ltb (length (c .before .before .before .before .before .before .args .out .now)) 176 (c .if1 .taken)), λ p l. absurd (omega arith)))
+few-requires : tie.Need-few-requires
+few-requires c κs = search needs
 
-reply-to-requires : tie.Need-reply-to-requires
-reply-to-requires c κs = search needs
+of-bytes-requires : tie.Need-of-bytes-requires
+of-bytes-requires c κs = search needs
 
-store-requires : tie.Need-store-requires
-store-requires c κs = search needs
+solve-fields-requires : tie.Need-solve-fields-requires
+solve-fields-requires c κs = nothing-else (c .before .of-bytes .result) _ (receptionAt (c .before .before .before .before .before .before .before .before .args .receptions .now)) (λ h. c .before .of-bytes .ensures ∙ ap (fieldsOf (receptionAt (c .before .before .before .before .before .before .before .before .args .receptions .now))) (c .before .before .few .ensures .2 h))
 
 same-length : tie.Need-same-length
 same-length c = search needs
 
-returns-2 : tie.Need-returns-2
-returns-2 c =
-    let whole : length (c .before .before .before .before .before .reply-to .result .bytes) ≡ 176 = search needs in (
-      rw (le-ltb (length (c .before .before .before .before .before .before .before .before .before .before .before .before .args .out .now)) 176 (c .before .before .before .before .before .before .if1 .left)) (ap (λ (r : Reply). r .number) (c .before .before .before .before .before .reply-to .ensures)),
-      (
-        rw (le-ltb (length (c .before .before .before .before .before .before .before .before .before .before .before .before .args .out .now)) 176 (c .before .before .before .before .before .before .if1 .left)) (c .before .before .store .ensures ∙ ap (λ (r : Reply). stored (c .before .before .before .before .before .before .before .before .before .before .before .before .args .out .now) (r .bytes)) (c .before .before .before .before .before .reply-to .ensures)),
-        λ p l. written (lent (c .before .before .before .before .before .before .before .before .before .before .before .before .args .receptions .now) (c .before .before .before .before .before .before .before .before .before .before .before .before .args .clock .now) (c .before .before .before .before .before .before .before .before .before .before .before .before .args .altitude .now) (c .before .before .before .before .before .before .before .before .before .before .before .before .args .reference .now) (c .before .before .before .before .before .before .before .before .before .before .before .before .args .present)) p (c .before .before .before .before .before .reply-to .result) (c .before .before .before .before .before .before .before .before .before .before .before .before .args .out .now) _ (c .before .before .before .before .before .reply-to .ensures) whole (c .before .before .store .ensures),
-      ),
-    )
+returns : tie.Need-returns
+returns c =
+    solved (c .before .before .before .before .of-bytes .result) _ (receptionAt (c .before .before .before .before .before .before .before .before .before .before .before .args .receptions .now)) (λ h. c .before .before .before .before .of-bytes .ensures ∙ ap (fieldsOf (receptionAt (c .before .before .before .before .before .before .before .before .before .before .before .args .receptions .now))) (c .before .before .before .before .before .few .ensures .2 h))
+    _ (given (c .before .before .before .before .before .before .before .before .before .before .before .args .present)) (c .before .before .before .before .before .before .before .before .before .before .before .args .clock .now) (c .before .before .before .before .before .before .before .before .before .before .before .args .altitude .now) (c .before .before .before .before .before .before .before .before .before .before .before .args .reference .now) (c .before .before .before .before .before .before .before .before .before .before .before .args .out .now) _ (c .before .before .solve-fields .result) (c .before .before .solve-fields .ensures)
 
 pub solve-spec : {M : Type 1} → statement M
 solve-spec =
     tie.close
     (tie.spec
-    returns
-    reply-to-requires
-    store-requires
+    few-requires
+    of-bytes-requires
+    solve-fields-requires
     same-length
-    returns-2)
+    returns)

@@ -1,24 +1,64 @@
--- `inputs::check_receptions` meets its contract: each turn adds the next reception's check (`first-next`). Assumes nothing.
+-- `inputs::check_receptions` meets its contract. `inputs::check_receptions` meets its contract: each turn adds the next reception's check (`first-next`). Assumes nothing. Assumes nothing.
 use borrow.Author.Needs.{needs}
 use mathlib.Core.Path.{_≡_, refl, _∙_}
 use Prim.Native.Nat.{_-_, _≤_}
 use native.Mathlib.Omega.{arith}
+use Rattle.receptions.specs.Receptions.{receptionIn}
 use Rattle.inputs.specs.Faults.{firstTo}
-use Rattle.inputs.specs.Files.{receptionAt}
 use Rattle.inputs.specs.Inputs.{checkReception}
-use Rattle.inputs.proofs.Steps.{first-next}
+use Rattle.inputs.proofs.Steps.{check-next}
+use lib.ListN.{getD}
+use lib.IntN.{pos}
+use mir.Syntax.{w64}
+use mir.ValLaws.{toZ-ofZ}
 use Rattle.inputs.proofs.check_receptions.Statement.{statement}
 use Rattle.inputs.proofs.check_receptions.Tie as tie
 
 abbrev Inv-loop : tie.InvT-loop
-Inv-loop receptions n found₀ i₀ found i = (i ≤ n) × (found ≡ firstTo (checkReception (receptionAt receptions)) i)
+Inv-loop n f found₀ i₀ found i = (i ≤ n) × (found ≡ firstTo (checkReception (receptionIn f)) i)
 
 abbrev μ-loop : tie.MeasureT-loop
-μ-loop receptions n found₀ i₀ found i = n - i
+μ-loop n f found₀ i₀ found i = n - i
 
 loop-holds : tie.Need-loop-holds Inv-loop μ-loop
 unfolding firstTo
 loop-holds c = (omega arith, refl)
+
+site-in-requires : tie.Need-site-in-requires Inv-loop μ-loop
+site-in-requires c κs = search needs
+
+mul-t11 : tie.Need-mul-t11 Inv-loop μ-loop
+mul-t11 c = search needs
+
+element-copy-out-t14 : tie.Need-element-copy-out-t14 Inv-loop μ-loop
+element-copy-out-t14 c = search needs
+
+mul-t15 : tie.Need-mul-t15 Inv-loop μ-loop
+mul-t15 c = search needs
+
+element-copy-out-t18 : tie.Need-element-copy-out-t18 Inv-loop μ-loop
+element-copy-out-t18 c = search needs
+
+mul-t19 : tie.Need-mul-t19 Inv-loop μ-loop
+mul-t19 c = search needs
+
+element-copy-out-t22 : tie.Need-element-copy-out-t22 Inv-loop μ-loop
+element-copy-out-t22 c = search needs
+
+mul-t23 : tie.Need-mul-t23 Inv-loop μ-loop
+mul-t23 c = search needs
+
+element-copy-out-t26 : tie.Need-element-copy-out-t26 Inv-loop μ-loop
+element-copy-out-t26 c = search needs
+
+mul-t27 : tie.Need-mul-t27 Inv-loop μ-loop
+mul-t27 c = search needs
+
+element-copy-out-t30 : tie.Need-element-copy-out-t30 Inv-loop μ-loop
+element-copy-out-t30 c = search needs
+
+ascends-requires : tie.Need-ascends-requires Inv-loop μ-loop
+ascends-requires c κs = search needs
 
 check-reception-requires : tie.Need-check-reception-requires Inv-loop μ-loop
 check-reception-requires c κs = search needs
@@ -33,10 +73,11 @@ loop-less : tie.Need-loop-less Inv-loop μ-loop
 loop-less c = omega arith
 
 loop-again : tie.Need-loop-again Inv-loop μ-loop
-loop-again c = (omega arith, c .or-else .ensures ∙ rw (c .before .before .before .loop .inv .1, c .before .check-reception .ensures) (first-next (checkReception (receptionAt (c .before .before .before .before .before .args .receptions .now))) (c .before .before .before .loop .i)))
+unfolding receptionIn
+loop-again c = (omega arith, check-next (c .before .before .before .before .before .before .before .before .before .before .before .before .before .before .before .args .t1) (c .before .before .before .before .before .before .before .before .before .before .before .before .before .before .loop .i) (c .before .before .before .before .before .before .before .before .before .before .before .before .before .before .loop .inv .1) (rw (toZ-ofZ w64 (getD (c .before .before .before .before .before .before .before .before .before .before .before .before .before .before .before .args .t1 .time) (c .before .before .before .before .before .before .before .before .before .before .before .before .before .before .loop .i) (pos 0)) (record { sfits = c .before .before .before .before .before .before .before .before .t18 .given }), c .before .before .before .before .before .before .before .before .before .before .site-in .ensures)) (c .before .before .ascends .ensures) (c .before .check-reception .ensures) (c .or-else .ensures))
 
 returns : tie.Need-returns Inv-loop μ-loop
-returns c = let e : c .before .loop .i ≡ c .before .before .before .args .n = omega arith in rw e at (c .before .loop .inv .1)
+returns c = let e : c .before .loop .i ≡ c .before .before .args .n = omega arith in rw e at (c .before .loop .inv .1)
 
 pub check-receptions-spec : {M : Type 1} → statement M
 check-receptions-spec =
@@ -45,6 +86,18 @@ check-receptions-spec =
     Inv-loop
     μ-loop
     loop-holds
+    site-in-requires
+    mul-t11
+    element-copy-out-t14
+    mul-t15
+    element-copy-out-t18
+    mul-t19
+    element-copy-out-t22
+    mul-t23
+    element-copy-out-t26
+    mul-t27
+    element-copy-out-t30
+    ascends-requires
     check-reception-requires
     or-else-requires
     add-i

@@ -3,8 +3,9 @@ use mathlib.Core.Path.{_≡_, refl}
 use Prim.Native.Nat.{_*_, _-_, _≤_}
 use native.Mathlib.Omega.{arith}
 use Rattle.dense.proofs.Places.{room}
-use Rattle.inputs.specs.Inputs.{fillTo, floats, upperAt}
-use Rattle.inputs.proofs.Filling.{fill-next}
+use Rattle.receptions.specs.Receptions.{fillTo, floats}
+use Rattle.inputs.specs.Inputs.{upperAt}
+use Rattle.receptions.proofs.Filling.{fill-next}
 use Rattle.inputs.proofs.covariance_of.Statement.{statement}
 use Rattle.inputs.proofs.covariance_of.Tie as tie
 

@@ -1,72 +1,36 @@
--- `inputs::problem_of` meets its contract: what passed is whole and small enough to be read (`Order`), and in the domain (`Sound`). Assumes nothing.
-use mathlib.Core.Path.{refl}
-use native.Mathlib.Omega.{arith}
+-- `inputs::problem_of` meets its contract. `inputs::problem_of` meets its contract: what passed is whole and small enough to be read (`Order`), and in the domain (`Sound`). Assumes nothing. Assumes nothing.
+use borrow.Author.Needs.{needs}
+use mathlib.Core.Path.{_∙_}
 use mir.Syntax.{w64}
 use mir.ValLaws.{toZ-ofZ}
-use Rattle.inputs.specs.Inputs.{problemOf, given, countOf}
-use Rattle.inputs.proofs.Order.{few, whole-altitude, whole-reference, passed-clock, is-covered, clock-of}
-use Rattle.inputs.proofs.Sound.{in-domain, ascending}
+use Rattle.receptions.specs.Receptions.{receptionIn}
+use Rattle.inputs.proofs.Order.{few, whole-altitude, whole-reference}
+use Rattle.inputs.proofs.Sound.{clock-whole, is-problem}
 use Rattle.inputs.proofs.problem_of.Statement.{statement}
 use Rattle.inputs.proofs.problem_of.Tie as tie
 
-receptions-of-requires : tie.Need-receptions-of-requires
-receptions-of-requires c κs =
-    let s = c .before .before .before .before in
-    let rs = s .args .receptions .now in
-    let alt = given (s .args .g .altitude) (s .args .altitude .now) in
-    let ref = given (s .args .g .reference) (s .args .reference .now) in
-    let clock = given (s .args .g .clock) (s .args .clock .now) in
-    let h = few rs alt ref clock (s .pre) in
-    (omega arith, h)
+metres-of-requires : tie.Need-metres-of-requires
+metres-of-requires c κs = few _ (c .before .before .before .pre .1)
 
 covariance-of-requires : tie.Need-covariance-of-requires
-covariance-of-requires c κs =
-    let s = c .before .before .before .before .before in
-    let rs = s .args .receptions .now in
-    let alt = given (s .args .g .altitude) (s .args .altitude .now) in
-    let ref = given (s .args .g .reference) (s .args .reference .now) in
-    let clock = given (s .args .g .clock) (s .args .clock .now) in
-    (few rs alt ref clock (s .pre), clock-of (s .args .g .clock) (s .args .clock .now) (countOf rs) (passed-clock rs alt ref clock (s .pre)) (is-covered rs alt ref clock (s .pre)) .0)
+covariance-of-requires c κs = (few _ (c .before .before .before .before .pre .1), clock-whole (c .before .before .before .before .args .n) (receptionIn (c .before .before .before .before .args .f)) (c .before .before .before .before .args .g) (c .before .before .before .before .args .clock .now) (c .before .before .before .before .args .altitude .now) (c .before .before .before .before .args .reference .now) (c .before .before .before .before .pre .1) .1)
 
 altitude-of-requires : tie.Need-altitude-of-requires
-altitude-of-requires c κs =
-    let s = c .before .before .before .before .before .before in
-    let rs = s .args .receptions .now in
-    let alt = given (s .args .g .altitude) (s .args .altitude .now) in
-    let ref = given (s .args .g .reference) (s .args .reference .now) in
-    let clock = given (s .args .g .clock) (s .args .clock .now) in
-    whole-altitude rs alt ref clock (s .pre)
+altitude-of-requires c κs = whole-altitude _ (c .before .before .before .before .before .pre .1)
 
 reference-of-requires : tie.Need-reference-of-requires
-reference-of-requires c κs =
-    let s = c .before .before .before .before .before .before .before in
-    let rs = s .args .receptions .now in
-    let alt = given (s .args .g .altitude) (s .args .altitude .now) in
-    let ref = given (s .args .g .reference) (s .args .reference .now) in
-    let clock = given (s .args .g .clock) (s .args .clock .now) in
-    whole-reference rs alt ref clock (s .pre)
+reference-of-requires c κs = whole-reference _ (c .before .before .before .before .before .before .pre .1)
 
 returns : tie.Need-returns
-unfolding problemOf
 returns c =
-    let s = c .before .before .before .before .before .before .before .before .before .before .before .before .before in
-    let rs = s .args .receptions .now in
-    let alt = given (s .args .g .altitude) (s .args .altitude .now) in
-    let ref = given (s .args .g .reference) (s .args .reference .now) in
-    rw (
-      toZ-ofZ w64 (c .before .before .before .before .before .reference-of .result) (record { sfits = c .before .before .before .before .before .reference-of .ok }),
-      c .before .before .before .before .before .reference-of .ensures,
-      c .before .before .before .before .before .before .altitude-of .ensures,
-      c .before .before .before .before .before .before .before .covariance-of .ensures,
-      c .before .before .before .before .before .before .before .before .receptions-of .ensures,
-    )
-    (refl, in-domain rs (s .args .g .clock) (s .args .clock .now) alt ref (s .pre), ascending rs (s .args .g .clock) (s .args .clock .now) alt ref (s .pre))
+    is-problem (c .before .before .before .before .before .before .before .before .before .before .before .args .f) (c .before .before .before .before .before .before .before .before .before .before .before .args .n) (c .before .before .before .before .before .before .before .before .before .before .before .args .g) (c .before .before .before .before .before .before .before .before .before .before .before .args .clock .now) (c .before .before .before .before .before .before .before .before .before .before .before .args .altitude .now) (c .before .before .before .before .before .before .before .before .before .before .before .args .reference .now) (c .before .before .before .before .before .before .before .before .before .before .before .pre) (c .before .before .before .before .before .before .before .metres-of .ensures) (c .before .before .before .before .before .before .covariance-of .ensures) (c .before .before .before .before .before .altitude-of .ensures)
+    (toZ-ofZ w64 (c .before .before .before .before .reference-of .result) (record { sfits = c .before .before .before .before .reference-of .ok }) ∙ c .before .before .before .before .reference-of .ensures)
 
 pub problem-of-spec : {M : Type 1} → statement M
 problem-of-spec =
     tie.close
     (tie.spec
-    receptions-of-requires
+    metres-of-requires
     covariance-of-requires
     altitude-of-requires
     reference-of-requires

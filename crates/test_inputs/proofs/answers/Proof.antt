@@ -1,12 +1,27 @@
--- `test_inputs::answers` meets its contract: a problem is made where the check passed (`is-passed`). Assumes nothing.
+-- `test_inputs::answers` meets its contract. `test_inputs::answers` meets its contract: a problem is made where the check passed (`is-passed`). Assumes nothing. Assumes nothing.
 use borrow.Author.Needs.{needs}
-use mathlib.Core.Path.{sym, _∙_}
-use Rattle.inputs.proofs.Order.{is-passed}
+use mathlib.Core.Path.{_≡_, sym, subst, _∙_}
+use mathlib.Core.Bool.{Bool}
+use Prim.Native.Nat.{_/_, _%_}
+use lib.Dec.{eqb}
+use lib.ListN.{length}
+use Rattle.receptions.specs.declared.Fields.{Fields}
+use Rattle.receptions.specs.Receptions.{receptionAt, receptionIn}
+use Rattle.inputs.specs.declared.Check.the-variants.{Passed}
+use Rattle.inputs.specs.Inputs.{Inputs, inputsOf, checkInputs}
+use Rattle.inputs.proofs.Order.{is-passed, is-whole, few}
+use Rattle.inputs.proofs.Alike.{nothing-else}
 use Rattle.test_inputs.proofs.answers.Statement.{statement}
 use Rattle.test_inputs.proofs.answers.Tie as tie
 
+abbrev lent : tie.Start → Fields → Bool → Inputs
+lent s f whole = inputsOf whole (length (s .args .receptions .now) / 64) (receptionIn f) (s .args .g) (s .args .clock .now) (s .args .altitude .now) (s .args .reference .now)
+
 u64-at-requires : tie.Need-u64-at-requires
 u64-at-requires c κs = search needs
+
+unpacked-requires : tie.Need-unpacked-requires
+unpacked-requires c κs = search needs
 
 check-inputs-requires : tie.Need-check-inputs-requires
 check-inputs-requires c κs = search needs
@@ -39,7 +54,11 @@ returns-2 : tie.Need-returns-2
 returns-2 c = search needs
 
 problem-of-requires : tie.Need-problem-of-requires
-problem-of-requires c κs = sym (c .before .before .before .check-inputs .ensures) ∙ is-passed (c .before .before .before .check-inputs .result) (c .before .before .match .keys2)
+problem-of-requires c κs =
+    let whole : Bool = eqb (length (c .before .before .before .before .before .before .before .before .before .before .before .args .receptions .now) % 64) 0 in
+    let f : Fields = c .before .before .before .before .unpacked .result in
+    let e : checkInputs (lent ((c .before .before .before .before .before .before .before .before .before .before .before)) f whole) ≡ Passed = sym (c .before .before .before .check-inputs .ensures) ∙ is-passed (c .before .before .before .check-inputs .result) (c .before .before .match .keys2) in
+    (nothing-else f (length (c .before .before .before .before .before .before .before .before .before .before .before .args .receptions .now) / 64) (receptionAt (c .before .before .before .before .before .before .before .before .before .before .before .args .receptions .now)) (c .before .before .before .before .unpacked .ensures) (few (lent ((c .before .before .before .before .before .before .before .before .before .before .before)) f whole) e), subst (λ (w : Bool). checkInputs (lent ((c .before .before .before .before .before .before .before .before .before .before .before)) f w) ≡ Passed) (is-whole (lent ((c .before .before .before .before .before .before .before .before .before .before .before)) f whole) e) e)
 
 u64-at-requires-3 : tie.Need-u64-at-requires-3
 u64-at-requires-3 c κs = search needs
@@ -55,6 +74,7 @@ answers-spec =
     tie.close
     (tie.spec
     u64-at-requires
+    unpacked-requires
     check-inputs-requires
     enum-known-check
     number-of-requires

@@ -1,0 +1,55 @@
+-- Arrays by field get the reply of the receptions that they were filled from. Assumes nothing.
+use Prim.Native.Nat.{ℕ, _≤_}
+use mathlib.Core.Path.{_≡_, refl, ap, sym, subst, _∙_}
+use mathlib.Core.Bool.{Bool, cond}
+use mathlib.Core.List.{List}
+use lib.Dec.{ltb}
+use lib.ListN.{length}
+use Rattle.problem.specs.declared.Problem.{Problem}
+use Rattle.receptions.specs.declared.Reception.{Reception}
+use Rattle.receptions.specs.declared.Fields.{Fields}
+use Rattle.receptions.specs.Receptions.{fieldsOf, receptionIn}
+use Rattle.inputs.specs.declared.Given.{Given}
+use Rattle.inputs.specs.declared.Check.{Check}
+use Rattle.inputs.specs.declared.Check.the-variants.{Passed, Refused}
+use Rattle.inputs.specs.Inputs.{Inputs, inputsOf, checkInputs, problemOf}
+use Rattle.inputs.proofs.Order.{few}
+use Rattle.inputs.proofs.Alike.{same-check, same-problem}
+use Rattle.rounds.specs.Solve.{solveProblem}
+use Rattle.record.specs.Record.{stored}
+use Rattle.entry.specs.declared.Reply.{Reply}
+use Rattle.entry.specs.Reply.{answered, replied, reply, answer, output, Demanded}
+
+-- what `solve_fields` promises: answer, output, demand
+abbrev pub Solved : Inputs → List ℕ → ℕ → List ℕ → Type 0
+Solved I out r after = (r ≡ answer I out) × ((after ≡ output I out) × (checkInputs I ≡ Passed → 176 ≤ length out → Demanded (problemOf I) after))
+
+module _ (f : Fields) (n : ℕ) (at : ℕ → Reception) (filled : n ≤ 32 → f ≡ fieldsOf at n) (whole : Bool) (g : Given) (clock altitude reference : List ℕ) where
+  abbrev I : Inputs
+  I = inputsOf whole n (receptionIn f) g clock altitude reference
+
+  abbrev J : Inputs
+  J = inputsOf whole n at g clock altitude reference
+
+  check : checkInputs I ≡ checkInputs J
+  check = same-check f n at filled whole g clock altitude reference
+
+  problem : checkInputs J ≡ Passed → problemOf I ≡ problemOf J
+  problem e = same-problem f n at filled whole g clock altitude reference (few J e)
+
+  same-reply : reply I ≡ reply J
+  unfolding reply
+  same-reply = go (checkInputs J) refl
+    where
+      go : (c : Check) → checkInputs J ≡ c → replied (checkInputs I) I ≡ replied (checkInputs J) J
+      go (Refused fault) e = ap (λ (c : Check). replied c I) (check ∙ e) ∙ sym (ap (λ (c : Check). replied c J) e)
+      go Passed e = ap (λ (c : Check). replied c I) (check ∙ e) ∙ ap (λ (p : Problem). answered n (p .altitude) (solveProblem p)) (problem e) ∙ sym (ap (λ (c : Check). replied c J) e)
+
+  pub solved : (out after : List ℕ) (r : ℕ) → Solved I out r after → Solved J out r after
+  solved out after r s = (
+    s .0 ∙ ap (λ (a : Reply). cond (ltb (length out) 176) 14 (a .number)) same-reply,
+    (
+      s .1 .0 ∙ ap (λ (a : Reply). cond (ltb (length out) 176) out (stored out (a .bytes))) same-reply,
+      λ e l. subst (λ (p : Problem). Demanded p after) (problem e) (s .1 .1 (check ∙ e) l),
+    ),
+  )
