@@ -20,7 +20,7 @@ use Rattle.damped.specs.Damped.{levenbergMarquardt}
 use Rattle.best.specs.declared.Unfit.{Unfit}
 use Rattle.best.specs.declared.Unfit.the-variants.{NoConvergence, OutOfRange, Ambiguous}
 use Rattle.best.specs.Plausible.{minHeightM, maxHeightM, maxRangeM, range, flying, nearTo, plausible}
-use Rattle.best.specs.Best.{found, unfit, nothing, fitAt, converged, weighed, rival, rivals, bestOf, judged, best}
+use Rattle.best.specs.Best.{gives, fails, nothing, fitAt, converged, weighed, rival, rivals, bestOf, judged, best}
 use Rattle.best.specs.Meaning.{fitFrom, Plausible, IsBest, FoundIsBest, NoneConverges, NonePlausible}
 use Rattle.best.proofs.Cost.{cost-number}
 use Rattle.best.proofs.Cheapest.{Cheapest, cheapest-of, none-of}
@@ -117,15 +117,15 @@ module _ (C : Chosen) (starts : List (List Float)) where
       alone = λ j l. of-starts (λ x y. T (not (rival (C .sites) (C .k) x y))) j l (none-below (λ m. rival (C .sites) (C .k) (fitAt fits i) (fitAt fits m)) r j (listed-back j l));
     }
 
-  found-best : (fit : Fit) → best C starts ≡ found fit → (i : ℕ) × IsBest C starts fit i
+  found-best : (fit : Fit) → best C starts ≡ gives fit → (i : ℕ) × IsBest C starts fit i
   unfolding best
   found-best fit e = go chosenBest refl e
     where
-      alone : (b : Bool) (i : ℕ) → chosenBest ≡ some i → ltb 0 (rivals (C .sites) (C .k) fits (fitAt fits i)) ≡ b → cond b (unfit Ambiguous) (found (fitAt fits i)) ≡ found fit → IsBest C starts fit i
+      alone : (b : Bool) (i : ℕ) → chosenBest ≡ some i → ltb 0 (rivals (C .sites) (C .k) fits (fitAt fits i)) ≡ b → cond b (fails Ambiguous) (gives (fitAt fits i)) ≡ gives fit → IsBest C starts fit i
       alone true i c r q = absurd (let z : _≡_ {A = ℕ} 0 1 = cc in omega arith)
       alone false i c r q = is-best i c fit (cc) (subst (λ (x : Bool). T (not x)) (sym r) tt)
 
-      go : (o : Option ℕ) → chosenBest ≡ o → judged (C .sites) (C .k) fits o ≡ found fit → (i : ℕ) × IsBest C starts fit i
+      go : (o : Option ℕ) → chosenBest ≡ o → judged (C .sites) (C .k) fits o ≡ gives fit → (i : ℕ) × IsBest C starts fit i
       go none c q = absurd (let z : _≡_ {A = ℕ} 0 1 = cc in omega arith)
       go (some i) c q = (i, alone (ltb 0 (rivals (C .sites) (C .k) fits (fitAt fits i))) i c refl q)
 
@@ -135,23 +135,23 @@ found-is-best C starts fit e = found-best C starts fit e
 -- ---- the refusals
 
 -- what the judgement gives where there is no rivalry to speak of: u is no fit, and not for a rival
-module _ (C : Chosen) (starts : List (List Float)) (u : Unfit) (notAmbiguous : unfit Ambiguous ≡ unfit u → ⊥) where
-  none-chosen : best C starts ≡ unfit u → (chosenBest C starts ≡ none) × (unfit (cond (ltb 0 (converged (fits C starts))) OutOfRange NoConvergence) ≡ unfit u)
+module _ (C : Chosen) (starts : List (List Float)) (u : Unfit) (notAmbiguous : Ambiguous ≡ u → ⊥) where
+  none-chosen : best C starts ≡ fails u → (chosenBest C starts ≡ none) × (cond (ltb 0 (converged (fits C starts))) OutOfRange NoConvergence ≡ u)
   unfolding best
   none-chosen e = go (chosenBest C starts) refl e
     where
-      judged-so : (b : Bool) (f : Fit) → cond b (unfit Ambiguous) (found f) ≡ unfit u → ⊥
-      judged-so true f q = notAmbiguous q
+      judged-so : (b : Bool) (f : Fit) → cond b (fails Ambiguous) (gives f) ≡ fails u → ⊥
+      judged-so true f q = notAmbiguous (cc)
       judged-so false f q = let z : _≡_ {A = ℕ} 0 1 = cc in omega arith
 
-      go : (o : Option ℕ) → chosenBest C starts ≡ o → judged (C .sites) (C .k) (fits C starts) o ≡ unfit u → (chosenBest C starts ≡ none) × (unfit (cond (ltb 0 (converged (fits C starts))) OutOfRange NoConvergence) ≡ unfit u)
-      go none c q = (c, q)
+      go : (o : Option ℕ) → chosenBest C starts ≡ o → judged (C .sites) (C .k) (fits C starts) o ≡ fails u → (chosenBest C starts ≡ none) × (cond (ltb 0 (converged (fits C starts))) OutOfRange NoConvergence ≡ u)
+      go none c q = (c, cc)
       go (some i) c q = absurd (judged-so (ltb 0 (rivals (C .sites) (C .k) (fits C starts) (fitAt (fits C starts) i))) (fitAt (fits C starts) i) q)
 
 pub none-converges : NoneConverges
 none-converges C starts e j l = go (ltb 0 (converged (fits C starts))) refl (none-chosen C starts NoConvergence (λ q. let z : _≡_ {A = ℕ} 0 1 = cc in omega arith) e .1)
   where
-    go : (b : Bool) → ltb 0 (converged (fits C starts)) ≡ b → unfit (cond b OutOfRange NoConvergence) ≡ unfit NoConvergence → T (not (fitFrom C starts j .ok))
+    go : (b : Bool) → ltb 0 (converged (fits C starts)) ≡ b → cond b OutOfRange NoConvergence ≡ NoConvergence → T (not (fitFrom C starts j .ok))
     go true r q = absurd (let z : _≡_ {A = ℕ} 0 1 = cc in omega arith)
     go false r q =
         subst (λ (x : Fit). T (not (x .ok))) (at-start C starts j l)
@@ -164,10 +164,10 @@ none-plausible C starts e = (
       (none-of (λ i. weighed (C .sites) (C .k) (fitAt (fits C starts) i)) (λ i. fitAt (fits C starts) i .cost) (number C starts) (length (fits C starts)) (both .0) j (listed-back C starts j l)),
 )
   where
-    both : (chosenBest C starts ≡ none) × (unfit (cond (ltb 0 (converged (fits C starts))) OutOfRange NoConvergence) ≡ unfit OutOfRange)
+    both : (chosenBest C starts ≡ none) × (cond (ltb 0 (converged (fits C starts))) OutOfRange NoConvergence ≡ OutOfRange)
     both = none-chosen C starts OutOfRange (λ q. let z : _≡_ {A = ℕ} 0 1 = cc in omega arith) e
 
-    go : (b : Bool) → ltb 0 (converged (fits C starts)) ≡ b → unfit (cond b OutOfRange NoConvergence) ≡ unfit OutOfRange → (i : ℕ) × (i < length starts) × T (fitFrom C starts i .ok)
+    go : (b : Bool) → ltb 0 (converged (fits C starts)) ≡ b → cond b OutOfRange NoConvergence ≡ OutOfRange → (i : ℕ) × (i < length starts) × T (fitFrom C starts i .ok)
     go true r q =
         let w = count-some (λ i. fitAt (fits C starts) i .ok) (length (fits C starts)) (ltb→lt 0 (converged (fits C starts)) (eq→T r)) in
         let h = listed C starts (w .0) (w .1) in

@@ -18,8 +18,9 @@ use Rattle.sets.specs.Choice.{choose, indexOf}
 use Rattle.sets.proofs.Choosing.{chosen-some, chosen-none, chosen-below}
 use Rattle.damped.specs.declared.Fit.{Fit}
 use Rattle.damped.specs.Damped.{levenbergMarquardt}
+use Rattle.best.specs.declared.Unfit.{Unfit}
 use Rattle.best.specs.declared.Unfit.the-variants.{NoConvergence, OutOfRange, Ambiguous, Singular}
-use Rattle.best.specs.Best.{Outcome, found, unfit, costlier, apart, fitAt, cheaper, converged, weighed, rivals, bestOf, judged, best, whitened, bestFit}
+use Rattle.best.specs.Best.{Outcome, gives, fails, costlier, apart, fitAt, cheaper, converged, weighed, rivals, bestOf, judged, best, whitened, bestFit}
 
 -- what the code holds of the fits: how many they are, the set S of those that are weighed, and the index of the best, which is 32 for none
 pub record Held (sites : List Float) (k : ℕ) (fits : List Fit) (n top : ℕ) (S : Subset) : Type 0 where
@@ -29,7 +30,7 @@ pub record Held (sites : List Float) (k : ℕ) (fits : List Fit) (n top : ℕ) (
   pub index : top ≡ indexOf (choose S (cheaper fits) n)
 
 module _ (sites : List Float) (k : ℕ) (fits : List Fit) (n top : ℕ) (S : Subset) (held : Held sites k fits n top S) where
-  abbrev answer : Outcome
+  abbrev answer : Outcome Unfit Fit
   answer = judged sites k fits (bestOf sites k fits)
 
   chosen-is : (o : Option ℕ) → choose S (cheaper fits) n ≡ o → bestOf sites k fits ≡ o
@@ -50,23 +51,23 @@ module _ (sites : List Float) (k : ℕ) (fits : List Fit) (n top : ℕ) (S : Sub
         e ∙ ap₂ (λ (R : Subset) (m : ℕ). ltb 0 (count (λ i. R i && (not (costlier fit (fitAt fits i)) && apart fit (fitAt fits i))) m)) (held .set) (sym (held .all))
         ∙ ap (λ (x : Fit). ltb 0 (rivals sites k fits x)) f
 
-    pub ambiguous : r ≡ true → unfit Ambiguous ≡ answer
+    pub ambiguous : r ≡ true → fails Ambiguous ≡ answer
     ambiguous g = rw (some-is h, ← rivalled, g)
 
-    pub alone : r ≡ false → found fit ≡ answer
-    alone g = rw (some-is h, ← rivalled, g) (ap found f)
+    pub alone : r ≡ false → gives fit ≡ answer
+    alone g = rw (some-is h, ← rivalled, g) (ap gives f)
 
   module _ (r : Bool) (h : 32 ≤ top) (e : r ≡ ltb 0 (converged fits)) where
-    pub out-of-range : r ≡ true → unfit OutOfRange ≡ answer
+    pub out-of-range : r ≡ true → fails OutOfRange ≡ answer
     out-of-range g = rw (none-is h, ← e, g)
 
-    pub no-convergence : r ≡ false → unfit NoConvergence ≡ answer
+    pub no-convergence : r ≡ false → fails NoConvergence ≡ answer
     no-convergence g = rw (none-is h, ← e, g)
 
 -- ---- the whitener first, whose answer the code holds as a flag b beside the array l
 module _ (clock : List Float) (n : ℕ) (noise : List Float) (index : List ℕ) (sites z : List Float) (k : ℕ) (altitude : Altitude) (starts : List (List Float))
-    (b : Bool) (l : List Float) (e : verdict b l ≡ whitener clock n noise index k zeros) (o : Outcome) where
-  abbrev outcome : Outcome
+    (b : Bool) (l : List Float) (e : verdict b l ≡ whitener clock n noise index k zeros) (o : Outcome Unfit Fit) where
+  abbrev outcome : Outcome Unfit Fit
   outcome = bestFit clock n noise index sites z k altitude starts
 
   told-by : verdict b l ≡ whitener clock n noise index k zeros → whitened (verdict b l) (λ w. best (chosen k sites z w altitude) starts) ≡ outcome
@@ -79,5 +80,5 @@ module _ (clock : List Float) (n : ℕ) (noise : List Float) (index : List ℕ) 
       g ∙ ap (λ (fs : List Fit). judged sites k fs (bestOf sites k fs)) f
       ∙ ap (λ (x : Bool). whitened (verdict x l) (λ w. best (chosen k sites z w altitude) starts)) (sym t) ∙ told-by e
 
-  pub whitened-refused : b ≡ false → o ≡ unfit Singular → o ≡ outcome
+  pub whitened-refused : b ≡ false → o ≡ fails Singular → o ≡ outcome
   whitened-refused t g = g ∙ ap (λ (x : Bool). whitened (verdict x l) (λ w. best (chosen k sites z w altitude) starts)) (sym t) ∙ told-by e

@@ -25,14 +25,14 @@ use Rattle.best.specs.declared.Unfit.the-variants.{NoConvergence, OutOfR
 use Rattle.best.specs.declared.Best.{Best}
 use Rattle.best.specs.Plausible.{plausible}
 
--- `Result<Fit, SolveError>`: the best fit, or why there is none
-pub data Outcome : Type 0 where
-  found : Fit → Outcome
-  unfit : Unfit → Outcome
+-- `Result<A, SolveError>`: what a step gives, or why it refuses
+pub data Outcome (E A : Type 0) : Type 0 where
+  fails : E → Outcome E A
+  gives : A → Outcome E A
 
 -- as the code tells it
-abbrev pub told : Best → Outcome
-told r = cond (r .found) (found (r .fit)) (unfit (r .why))
+abbrev pub told : Best → Outcome Unfit Fit
+told r = cond (r .found) (gives (r .fit)) (fails (r .why))
 
 -- `AMBIGUOUS_COST`
 unfoldable pub ambiguousCost : Float
@@ -87,23 +87,23 @@ module _ (sites : List Float) (k : ℕ) where
     rivals best = count (λ i. rival best (fitAt fits i)) (length fits)
 
     -- what `best_fit` makes of them
-    abbrev pub judged : Option ℕ → Outcome
-    judged none = unfit (cond (ltb 0 (converged fits)) OutOfRange NoConvergence)
-    judged (some i) = cond (ltb 0 (rivals (fitAt fits i))) (unfit Ambiguous) (found (fitAt fits i))
+    abbrev pub judged : Option ℕ → Outcome Unfit Fit
+    judged none = fails (cond (ltb 0 (converged fits)) OutOfRange NoConvergence)
+    judged (some i) = cond (ltb 0 (rivals (fitAt fits i))) (fails Ambiguous) (gives (fitAt fits i))
 
 -- the best fit from a list of starts
-unfoldable pub best : Chosen → List (List Float) → Outcome
+unfoldable pub best : Chosen → List (List Float) → Outcome Unfit Fit
 best C starts =
     let fits = map (levenbergMarquardt C) starts in
     judged (C .sites) (C .k) fits (bestOf (C .sites) (C .k) fits)
 
 -- `whitener(subset).ok_or(SolveError::Singular)?` comes before the fits
-abbrev pub whitened : factor.Factor → (List Float → Outcome) → Outcome
+abbrev pub whitened : factor.Factor → (List Float → Outcome Unfit Fit) → Outcome Unfit Fit
 whitened (factor.found l) fit = fit l
-whitened (factor.refused l) fit = unfit Singular
+whitened (factor.refused l) fit = fails Singular
 
 -- `best_fit`, of the k receptions of `index`
-unfoldable pub bestFit : List Float → ℕ → List Float → List ℕ → List Float → List Float → ℕ → Altitude → List (List Float) → Outcome
+unfoldable pub bestFit : List Float → ℕ → List Float → List ℕ → List Float → List Float → ℕ → Altitude → List (List Float) → Outcome Unfit Fit
 bestFit clock n noise index sites z k altitude starts = whitened (whitener clock n noise index k zeros) (λ l. best (chosen k sites z l altitude) starts)
 
 -- the first k starts of the array that holds them

@@ -9,18 +9,15 @@ use lib.ListN.{length, getD}
 use lib.Ieee.{Float, lt, le, isNan}
 use Rattle.geo.specs.Geo.{fromEcef}
 use Rattle.dense.specs.Factor as factor
-use Rattle.linalg.specs.Methods.{zeros}
 use Rattle.sets.specs.Sets.{Subset}
-use Rattle.problem.specs.declared.Problem.{Problem}
 use Rattle.problem.specs.Problem.{position}
-use Rattle.whitening.specs.Covariance.{whitener}
-use Rattle.whitening.specs.Whitened.{Chosen, chosen}
+use Rattle.whitening.specs.Whitened.{Chosen}
 use Rattle.damped.specs.declared.Fit.{Fit}
 use Rattle.damped.specs.Damped.{levenbergMarquardt}
 use Rattle.best.specs.declared.Unfit.the-variants.{NoConvergence, OutOfRange}
 use Rattle.best.specs.Plausible.{minHeightM, maxHeightM, maxRangeM, range}
-use Rattle.best.specs.Best.{found, unfit, weighed, rival, best}
-use Rattle.best.specs.OfProblem.{subset, size, subsetSites, subsetZ, startsOver, bestFitOver}
+use Rattle.best.specs.Best.{gives, fails, weighed, rival, best}
+use Rattle.best.specs.OfProblem.{Receptions, whitenerOver, chosenOver, startsOver, bestFitOver}
 
 -- a fit that converged has a number for its cost, so that costs can be ranked
 abbrev pub CostIsNumber : Type 0
@@ -38,7 +35,11 @@ module _ (C : Chosen) (starts : List (List Float)) where
   abbrev pub fitFrom : ℕ → Fit
   fitFrom i = levenbergMarquardt C (getD starts i [])
 
-  -- The fit from the i-th start is the best: it converged and is plausible; of all that are, none costs less, and each from an earlier start costs more; and no fit from any start is its rival.
+  -- no fit from any start is a rival of this one
+  abbrev pub NoRival : Fit → Type 0
+  NoRival fit = (j : ℕ) → j < length starts → T (not (rival (C .sites) (C .k) fit (fitFrom j)))
+
+  -- The fit from the i-th start is the best: it converged and is plausible; of all that are, none costs less, and each from an earlier start costs more; and it has no rival.
   pub record IsBest (fit : Fit) (i : ℕ) : Type 0 where
     pub listed : i < length starts
     pub from : fit ≡ fitFrom i
@@ -46,36 +47,32 @@ module _ (C : Chosen) (starts : List (List Float)) where
     pub plausible : Plausible C fit
     pub cheapest : (j : ℕ) → j < length starts → T (weighed (C .sites) (C .k) (fitFrom j)) → T (le (fit .cost) (fitFrom j .cost))
     pub earliest : (j : ℕ) → j < i → T (weighed (C .sites) (C .k) (fitFrom j)) → T (lt (fit .cost) (fitFrom j .cost))
-    pub alone : (j : ℕ) → j < length starts → T (not (rival (C .sites) (C .k) fit (fitFrom j)))
+    pub alone : NoRival fit
 
 -- a best fit that is found is that
 abbrev pub FoundIsBest : Type 0
-FoundIsBest = (C : Chosen) (starts : List (List Float)) (fit : Fit) → best C starts ≡ found fit → (i : ℕ) × IsBest C starts fit i
+FoundIsBest = (C : Chosen) (starts : List (List Float)) (fit : Fit) → best C starts ≡ gives fit → (i : ℕ) × IsBest C starts fit i
 
 -- "no start converges"
 abbrev pub NoneConverges : Type 0
-NoneConverges = (C : Chosen) (starts : List (List Float)) → best C starts ≡ unfit NoConvergence → (j : ℕ) → j < length starts → T (not (fitFrom C starts j .ok))
+NoneConverges = (C : Chosen) (starts : List (List Float)) → best C starts ≡ fails NoConvergence → (j : ℕ) → j < length starts → T (not (fitFrom C starts j .ok))
 
 -- "some converge, none plausible"
 abbrev pub NonePlausible : Type 0
 NonePlausible =
-    (C : Chosen) (starts : List (List Float)) → best C starts ≡ unfit OutOfRange
+    (C : Chosen) (starts : List (List Float)) → best C starts ≡ fails OutOfRange
     → ((i : ℕ) × (i < length starts) × T (fitFrom C starts i .ok)) × ((j : ℕ) → j < length starts → T (not (weighed (C .sites) (C .k) (fitFrom C starts j))))
 
--- ---- over a set S of a problem's receptions, after a round that found the parameters `previous`
-module _ (P : Problem) (S : Subset) (previous : Option (List Float)) where
-  -- the receptions are whitened by l
-  abbrev pub chosenOver : List Float → Chosen
-  chosenOver l = chosen (size P S) (subsetSites P S) (subsetZ P S) l (P .altitude)
+-- ---- over a set S of the receptions R, after a round that found the parameters `previous`
 
-  -- the fit from the i-th of the round's starts is the best, and each reception of S is within its range
-  pub record IsBestOver (fit : Fit) (l : List Float) (i : ℕ) : Type 0 where
-    pub whitens : whitener (P .«clock_m2») (P .n) (P .«noise_m2») (subset P S) (size P S) zeros ≡ factor.found l
-    pub best : IsBest (chosenOver l) (startsOver P S previous) fit i
-    pub near : (j : ℕ) → j < P .n → T (S j) → T (le (range (P .site) (position (fit .params)) j) maxRangeM)
+-- the fit from the i-th of the round's starts is the best, and each reception of S is within its range; l whitens the receptions
+pub record IsBestOver (R : Receptions) (S : Subset) (previous : Option (List Float)) (fit : Fit) (l : List Float) (i : ℕ) : Type 0 where
+  pub whitens : whitenerOver R S ≡ factor.found l
+  pub best : IsBest (chosenOver R S l) (startsOver R S previous) fit i
+  pub near : (j : ℕ) → j < R .n → T (S j) → T (le (range (R .site) (position (fit .params)) j) maxRangeM)
 
 -- a round's best fit is that
 abbrev pub FoundIsBestOver : Type 0
 FoundIsBestOver =
-    (P : Problem) (S : Subset) (previous : Option (List Float)) (fit : Fit) → P .n ≤ 32 → bestFitOver P S previous ≡ found fit
-    → (l : List Float) × (i : ℕ) × IsBestOver P S previous fit l i
+    (R : Receptions) (S : Subset) (previous : Option (List Float)) (fit : Fit) → R .n ≤ 32 → bestFitOver R S previous ≡ gives fit
+    → (l : List Float) × (i : ℕ) × IsBestOver R S previous fit l i

@@ -1,4 +1,4 @@
--- The best fit over a set of receptions of a problem, as a round of `solve_problem` makes it: `subset`, `starts` and `best_fit`. Definitions only.
+-- The best fit over a set of a problem's receptions, as a round of `solve_problem` makes it: `subset`, `whitener`, `starts` and `best_fit`. Definitions only.
 use mathlib.Core.Bool.{true, false}
 use mathlib.Core.List.{List}
 use mathlib.Core.Option.{Option, none, some}
@@ -6,32 +6,59 @@ use Prim.Native.Nat.{ℕ}
 use lib.ListN.{replicate}
 use lib.Ieee.{Float}
 use Rattle.binary64.specs.Steps.{nought}
+use Rattle.dense.specs.Factor.{Factor}
+use Rattle.linalg.specs.Methods.{zeros}
 use Rattle.sets.specs.Sets.{Subset, count, membersTo}
+use Rattle.problem.specs.declared.Altitude.{Altitude}
 use Rattle.problem.specs.declared.Problem.{Problem}
 use Rattle.problem.specs.Gathered.{gatherTo, sitesTo}
+use Rattle.whitening.specs.Covariance.{whitener}
+use Rattle.whitening.specs.Whitened.{Chosen, chosen}
+use Rattle.damped.specs.declared.Fit.{Fit}
 use Rattle.starts.specs.Starts.{startsAfter}
-use Rattle.best.specs.Best.{Outcome, bestFit}
+use Rattle.best.specs.declared.Unfit.{Unfit}
+use Rattle.best.specs.Best.{Outcome, best, whitened}
 
-module _ (P : Problem) (S : Subset) where
-  -- the receptions of S, ascending, and how many they are
-  abbrev pub subset : List ℕ
-  subset = membersTo S (replicate 32 0) (P .n)
+-- what a fit reads of a problem: its n receptions by their sites, z, noise and clock covariance, and the altitude
+pub record Receptions : Type 0 where
+  pub n : ℕ
+  pub site : List Float
+  pub z : List Float
+  pub noise : List Float
+  pub clock : List Float
+  pub altitude : Altitude
 
-  abbrev pub size : ℕ
-  size = count S (P .n)
+abbrev pub receptions : List Float → List Float → List Float → List Float → ℕ → Altitude → Receptions
+receptions site z noise clock n altitude = record { n = n; site = site; z = z; noise = noise; clock = clock; altitude = altitude }
 
-  -- their sites and their z
-  abbrev pub subsetSites : List Float
-  subsetSites = sitesTo (P .site) subset (replicate 96 nought) size
+abbrev pub receptionsOf : Problem → Receptions
+receptionsOf P = receptions (P .site) (P .z) (P .«noise_m2») (P .«clock_m2») (P .n) (P .altitude)
 
-  abbrev pub subsetZ : List Float
-  subsetZ = gatherTo (P .z) subset (replicate 32 nought) size
+-- `subset`: those of S below n, ascending; `count S n` of them
+abbrev pub subset : ℕ → Subset → List ℕ
+subset n S = membersTo S (replicate 32 0) n
+
+-- their sites, and their z
+abbrev pub subsetSites : List Float → ℕ → Subset → List Float
+subsetSites site n S = sitesTo site (subset n S) (replicate 96 nought) (count S n)
+
+abbrev pub subsetZ : List Float → ℕ → Subset → List Float
+subsetZ z n S = gatherTo z (subset n S) (replicate 32 nought) (count S n)
+
+-- over a set S of the receptions R
+module _ (R : Receptions) (S : Subset) where
+  -- the factor of their covariance, and they as the factor l whitens them
+  abbrev pub whitenerOver : Factor
+  whitenerOver = whitener (R .clock) (R .n) (R .noise) (subset (R .n) S) (count S (R .n)) zeros
+
+  abbrev pub chosenOver : List Float → Chosen
+  chosenOver l = chosen (count S (R .n)) (subsetSites (R .site) (R .n) S) (subsetZ (R .z) (R .n) S) l (R .altitude)
 
   -- their starts, the parameters of the round before first where there was one
   abbrev pub startsOver : Option (List Float) → List (List Float)
-  startsOver none = startsAfter false (replicate 4 nought) subsetSites subsetZ size (P .altitude)
-  startsOver (some previous) = startsAfter true previous subsetSites subsetZ size (P .altitude)
+  startsOver none = startsAfter false (replicate 4 nought) (subsetSites (R .site) (R .n) S) (subsetZ (R .z) (R .n) S) (count S (R .n)) (R .altitude)
+  startsOver (some previous) = startsAfter true previous (subsetSites (R .site) (R .n) S) (subsetZ (R .z) (R .n) S) (count S (R .n)) (R .altitude)
 
   -- the round's best fit
-  unfoldable pub bestFitOver : Option (List Float) → Outcome
-  bestFitOver previous = bestFit (P .«clock_m2») (P .n) (P .«noise_m2») subset subsetSites subsetZ size (P .altitude) (startsOver previous)
+  unfoldable pub bestFitOver : Option (List Float) → Outcome Unfit Fit
+  bestFitOver previous = whitened whitenerOver (λ l. best (chosenOver l) (startsOver previous))

@@ -14,7 +14,7 @@ ghost use Rattle.problem.specs.Gathered.{pick};
 ghost use Rattle.whitening.specs.Whitened.{chosen};
 ghost use Rattle.damped.specs.Damped.{unfitted, levenbergMarquardt};
 ghost use Rattle.best.specs.Plausible.{maxRangeM, range, flying, nearTo, plausible};
-ghost use Rattle.best.specs.Best.{unfit, told, costlier, distance, apart, fitAt, cheaper, converged, weighed, bestOf, judged, pointsTo, bestFit};
+ghost use Rattle.best.specs.Best.{fails, told, costlier, distance, apart, fitAt, cheaper, converged, weighed, bestOf, judged, pointsTo, bestFit};
 use damped::Fit;
 use problem::Altitude;
 
@@ -244,7 +244,7 @@ fn rivalled(fits: [Fit; 18], mask: u32, best: Fit, count: usize) -> bool
 }
 
 fn refused(why: Unfit) -> Best
-    ensures { λ r. ⌜ told r ≡ unfit why ⌝ }
+    ensures { λ r. ⌜ told r ≡ fails why ⌝ }
 {
     let fit = no_fit();
     Best {

@@ -1,20 +1,23 @@
 -- The claim of demand 3 holds of the computation's answer, and of no other. Assumes nothing.
 use mathlib.Core.Path.{_≡_, refl, sym, ap, _∙_}
-use mathlib.Core.Logic.{_⊎_, inl, inr}
 use mathlib.Core.Option.{Option, none}
 use Prim.Native.Nat.{ℕ, suc, _+_, _*_, _-_, _≤_}
 use native.Mathlib.Omega.{arith}
 use Rattle.sets.specs.Sets.{Subset}
+use Rattle.best.specs.Best.{Outcome, fails, gives}
 use Rattle.rounds.specs.declared.answer.Refusal.{Refusal}
 use Rattle.rounds.specs.declared.finish.Unpublished.{Unpublished}
-use Rattle.rounds.specs.Setting.{Outcome, fails, gives, ofUnpublished, Answer, fix, refused, noFixedPoint, Setting, kept, survivors}
+use Rattle.rounds.specs.Setting.{ofUnpublished, Answer, fix, refused, noFixedPoint, Setting, kept, survivors}
 use Rattle.rounds.specs.Rounds.{closed, roundsTo, solved}
-use Rattle.rounds.specs.Demand.{Settled, Ends, Reach, Fixed, Late, Refused, Unfixed, Claim}
+use Rattle.rounds.specs.Demand.{Settled, Ends, Chain, InTime, Fixed, Refused, early, late, Claim}
 use Rattle.rounds.proofs.Chains.{all-kept, chain-within, after-chain, after-settled, after-end, Run, ended, settled, never, run}
 
 module _ {Q F X : Type 0} (P : Setting Q F X) where
   abbrev cap : ℕ
   cap = 2 * survivors P + 2
+
+  abbrev Never : Type 0
+  Never = (E : Subset) × (q : Option Q) × Chain P E q cap (kept P) none
 
   -- ---- the three kinds of answer are apart
 
@@ -36,44 +39,41 @@ module _ {Q F X : Type 0} (P : Setting Q F X) where
     fixed-of x h (ended k e l s w q) = absurd (let z : _≡_ {A = ℕ} 0 1 = cc in omega arith)
     fixed-of x h (never s q) = absurd (let z : _≡_ {A = ℕ} 0 1 = cc in omega arith)
     fixed-of x h (settled {E = E} {q = p} k f l s w q) =
-        record { changes = k; inTime = omega arith; used = E; before = p; chain = s; best = f; settled = w; shown = closed-fix x (P .later E f) (sym q ∙ h) }
+        record { used = E; before = p; inTime = record { changes = k; most = omega arith; chain = s }; best = f; settled = w; shown = closed-fix x (P .later E f) (sym q ∙ h) }
 
     refused-of : (e : Refusal) → a ≡ refused e → Run P cap (kept P) none a → Refused P e
     refused-of e h (ended {E = E} {q = p} k d l s w q) =
         let c : d ≡ e = cc in
-        record { changes = k; inTime = omega arith; last = E; before = p; chain = s; why = inl (rw c at w) }
+        early E p (record { changes = k; most = omega arith; chain = s }) (rw c at w)
     refused-of e h (never s q) = absurd (let z : _≡_ {A = ℕ} 0 1 = cc in omega arith)
     refused-of e h (settled {E = E} {q = p} k f l s w q) =
         let c = closed-refused e (P .later E f) (sym q ∙ h) in
-        record { changes = k; inTime = omega arith; last = E; before = p; chain = s; why = inr (record { best = f; settled = w; test = c .0; refuses = c .1; is = c .2 }) }
+        late E p f (c .0) (record { changes = k; most = omega arith; chain = s }) w (c .1) (c .2)
 
-    unfixed-of : a ≡ noFixedPoint → Run P cap (kept P) none a → Unfixed P
+    unfixed-of : a ≡ noFixedPoint → Run P cap (kept P) none a → Never
     unfixed-of h (ended k e l s w q) = absurd (let z : _≡_ {A = ℕ} 0 1 = cc in omega arith)
-    unfixed-of h (never {E = E} {q = p} s q) = record { last = E; before = p; chain = s }
+    unfixed-of h (never {E = E} {q = p} s q) = (E, p, s)
     unfixed-of h (settled {E = E} k f l s w q) = absurd (closed-never (P .later E f) (sym q ∙ h))
 
   -- ---- from the rounds to the answer
-  settles : (k : ℕ) (S : Subset) (p : Option Q) (f : F) → k ≤ 2 * survivors P + 1 → Reach P k S p → Settled P S p f → solved P ≡ closed (P .later S f)
+  settles : (S : Subset) (p : Option Q) (f : F) → InTime P S p → Settled P S p f → solved P ≡ closed (P .later S f)
   unfolding solved
-  settles k S p f l c h = after-chain P c (all-kept P) cap (suc (cap - suc k)) (omega arith) ∙ after-settled P S p f (cap - suc k) (chain-within P c (all-kept P)) h
+  settles S p f t h = after-chain P (t .chain) (all-kept P) cap (suc (cap - suc (t .changes))) (omega (arith, t .most)) ∙ after-settled P S p f (cap - suc (t .changes)) (chain-within P (t .chain) (all-kept P)) h
 
-  ends : (k : ℕ) (S : Subset) (p : Option Q) (e : Refusal) → k ≤ 2 * survivors P + 1 → Reach P k S p → Ends P S p e → solved P ≡ refused e
+  ends : (S : Subset) (p : Option Q) (e : Refusal) → InTime P S p → Ends P S p e → solved P ≡ refused e
   unfolding solved
-  ends k S p e l c h = after-chain P c (all-kept P) cap (suc (cap - suc k)) (omega arith) ∙ after-end P S p e (cap - suc k) (chain-within P c (all-kept P)) h
+  ends S p e t h = after-chain P (t .chain) (all-kept P) cap (suc (cap - suc (t .changes))) (omega (arith, t .most)) ∙ after-end P S p e (cap - suc (t .changes)) (chain-within P (t .chain) (all-kept P)) h
 
   of-fixed : (x : X) → Fixed P x → solved P ≡ fix x
-  of-fixed x h = settles (h .changes) (h .used) (h .before) (h .best) (h .inTime) (h .chain) (h .settled) ∙ ap (closed) (h .shown)
+  of-fixed x h = settles (h .used) (h .before) (h .best) (h .inTime) (h .settled) ∙ ap (closed) (h .shown)
 
   of-refused : (e : Refusal) → Refused P e → solved P ≡ refused e
-  of-refused e h = go (h .why)
-    where
-      go : Ends P (h .last) (h .before) e ⊎ Late P (h .last) (h .before) e → solved P ≡ refused e
-      go (inl w) = ends (h .changes) (h .last) (h .before) e (h .inTime) (h .chain) w
-      go (inr w) = settles (h .changes) (h .last) (h .before) (w .best) (h .inTime) (h .chain) (w .settled) ∙ ap (closed) (w .refuses) ∙ ap refused (sym (w .is))
+  of-refused e (early S p t w) = ends S p e t w
+  of-refused e (late S p f u t w r i) = settles S p f t w ∙ ap (closed) r ∙ ap refused (sym i)
 
-  of-unfixed : Unfixed P → solved P ≡ noFixedPoint
+  of-unfixed : Never → solved P ≡ noFixedPoint
   unfolding solved roundsTo
-  of-unfixed h = after-chain P (h .chain) (all-kept P) cap 0 (omega arith)
+  of-unfixed h = after-chain P (h .2) (all-kept P) cap 0 (omega arith)
 
   solved-run : Run P cap (kept P) none (solved P)
   unfolding solved

@@ -12,10 +12,10 @@ use Rattle.dense.specs.Inverse.{inverse}
 use Rattle.problem.specs.Problem.{moment}
 use Rattle.limits.specs.Local.{published}
 use Rattle.damped.specs.declared.Fit.{Fit}
+use Rattle.best.specs.Best.{fails, gives}
 use Rattle.record.specs.declared.content.Fix.{Fix}
 use Rattle.rounds.specs.declared.moment.Moment.{Moment}
 use Rattle.rounds.specs.declared.finish.Unpublished.the-variants.{Singular, Uncertain, OutOfRange}
-use Rattle.rounds.specs.Setting.{fails, gives}
 use Rattle.rounds.specs.Finish.{held, momentOf, transmitPs, certain, fixOf, shown, inverted, finish}
 use Rattle.rounds.proofs.Moments.{moment-held, moment-beyond}
 

@@ -10,49 +10,49 @@ use Rattle.linalg.specs.Methods.{zeros}
 use Rattle.sets.specs.Sets.{count}
 use Rattle.sets.specs.Mask.{has, maskOf}
 use Rattle.sets.proofs.Masks.{count-within, mask-back}
-use Rattle.problem.specs.declared.Altitude.{Altitude}
 use Rattle.limits.specs.Limits.{dof, roundingNorm, publishedChi2Limit}
 use Rattle.whitening.specs.Covariance.{whitener}
 use Rattle.whitening.specs.Whitened.{Chosen, chosen, Rows, rows, whitened}
 use Rattle.damped.specs.declared.Fit.{Fit}
+use Rattle.best.specs.Best.{Outcome, fails}
+use Rattle.best.specs.OfProblem.{Receptions, chosenOver}
 use Rattle.record.specs.declared.content.Fix.{Fix}
 use Rattle.rounds.specs.declared.finish.Unpublished.{Unpublished}
 use Rattle.rounds.specs.declared.finish.Unpublished.the-variants.{Inconsistent, Singular}
 use Rattle.rounds.specs.declared.fitting.Gathered.{Gathered}
-use Rattle.rounds.specs.Setting.{Outcome, fails}
 use Rattle.rounds.specs.Finish.{finish}
-use Rattle.rounds.specs.Solve.{subset, hasAltitude, limitAt, dofOf, tested, later}
+use Rattle.rounds.specs.Solve.{hasAltitude, limitAt, dofOf, tested, later, gathered}
 
 pub limit-is : (C : Chosen) (d : ℕ) (params : List Float) (m : ℕ) (r a b c e : List Float) → rows m r a b c e ≡ whitened C params → publishedChi2Limit d (roundingNorm a b c e m) ≡ limitAt C d params
 unfolding limitAt
 limit-is C d params m r a b c e h = ap (λ (w : Rows). publishedChi2Limit d (roundingNorm (w .a) (w .b) (w .c) (w .d) (w .count))) h
 
-module _ (site z noise clock : List Float) (n : ℕ) (altitude : Altitude) (reference : ℤ) (mask : ℕ) (M : mask < 2 ^ n) (N : n ≤ 32) (fit : Fit) (g : Gathered) (G : g ≡ subset site z n (has mask)) where
+module _ (R : Receptions) (reference : ℤ) (mask : ℕ) (M : mask < 2 ^ R .n) (N : R .n ≤ 32) (fit : Fit) (g : Gathered) (G : g ≡ gathered (R .site) (R .z) (R .n) (has mask)) where
   abbrev settling : Outcome Unpublished Fix
-  settling = later site z noise clock n altitude reference (has mask) fit
+  settling = later R reference (has mask) fit
 
-  factored : (f : Factor) → f ≡ whitener clock n noise (g .index) (g .k) zeros → tested site z noise clock n altitude reference (has mask) fit f ≡ settling
+  factored : (f : Factor) → f ≡ whitener (R .clock) (R .n) (R .noise) (g .index) (g .k) zeros → tested R reference (has mask) fit f ≡ settling
   unfolding later
-  factored f e = ap (tested site z noise clock n altitude reference (has mask) fit) (e ∙ ap (λ (x : Gathered). whitener clock n noise (x .index) (x .k) zeros) G)
+  factored f e = ap (tested R reference (has mask) fit) (e ∙ ap (λ (x : Gathered). whitener (R .clock) (R .n) (R .noise) (x .index) (x .k) zeros) G)
 
-  pub late-singular : (l : List Float) → refused l ≡ whitener clock n noise (g .index) (g .k) zeros → fails Singular ≡ settling
+  pub late-singular : (l : List Float) → refused l ≡ whitener (R .clock) (R .n) (R .noise) (g .index) (g .k) zeros → fails Singular ≡ settling
   late-singular l e = factored (refused l) e
 
-  module _ (l : List Float) (e : found l ≡ whitener clock n noise (g .index) (g .k) zeros) (d : ℕ) (D : d ≡ dof (count (has mask) 32) (hasAltitude altitude))
-      (x : Float) (L : x ≡ limitAt (chosen (g .k) (g .sites) (g .z) l altitude) d (fit .params)) where
-    freedom : d ≡ dofOf site z noise clock n altitude (has mask)
-    freedom = D ∙ ap (λ (c : ℕ). dof c (hasAltitude altitude)) (count-within n mask M N)
+  module _ (l : List Float) (e : found l ≡ whitener (R .clock) (R .n) (R .noise) (g .index) (g .k) zeros) (d : ℕ) (D : d ≡ dof (count (has mask) 32) (hasAltitude (R .altitude)))
+      (x : Float) (L : x ≡ limitAt (chosen (g .k) (g .sites) (g .z) l (R .altitude)) d (fit .params)) where
+    freedom : d ≡ dofOf R (has mask)
+    freedom = D ∙ ap (λ (c : ℕ). dof c (hasAltitude (R .altitude))) (count-within (R .n) mask M N)
 
-    limited : x ≡ limitAt (chosen (subset site z n (has mask) .k) (subset site z n (has mask) .sites) (subset site z n (has mask) .z) l altitude) (dofOf site z noise clock n altitude (has mask)) (fit .params)
-    limited = L ∙ ap (λ (h : Gathered). limitAt (chosen (h .k) (h .sites) (h .z) l altitude) d (fit .params)) G ∙ ap (λ (c : ℕ). limitAt (chosen (subset site z n (has mask) .k) (subset site z n (has mask) .sites) (subset site z n (has mask) .z) l altitude) c (fit .params)) freedom
+    limited : x ≡ limitAt (chosenOver R (has mask) l) (dofOf R (has mask)) (fit .params)
+    limited = L ∙ ap (λ (h : Gathered). limitAt (chosen (h .k) (h .sites) (h .z) l (R .altitude)) d (fit .params)) G ∙ ap (λ (c : ℕ). limitAt (chosenOver R (has mask) l) c (fit .params)) freedom
 
-    judged : (t : Bool) → lt x (fit .cost) ≡ t → cond t (fails Inconsistent) (finish (maskOf (has mask) n) (dofOf site z noise clock n altitude (has mask)) reference fit) ≡ settling
+    judged : (t : Bool) → lt x (fit .cost) ≡ t → cond t (fails Inconsistent) (finish (maskOf (has mask) (R .n)) (dofOf R (has mask)) reference fit) ≡ settling
     judged t h =
-        ap (λ (b : Bool). cond b (fails Inconsistent) (finish (maskOf (has mask) n) (dofOf site z noise clock n altitude (has mask)) reference fit)) (sym h ∙ ap (λ (y : Float). lt y (fit .cost)) limited) ∙ factored (found l) e
+        ap (λ (b : Bool). cond b (fails Inconsistent) (finish (maskOf (has mask) (R .n)) (dofOf R (has mask)) reference fit)) (sym h ∙ ap (λ (y : Float). lt y (fit .cost)) limited) ∙ factored (found l) e
 
     pub late-inconsistent : lt x (fit .cost) ≡ true → fails Inconsistent ≡ settling
     late-inconsistent h = judged true h
 
     pub late-finish : lt x (fit .cost) ≡ false → finish mask d reference fit ≡ settling
     late-finish h =
-        ap (λ (m : ℕ). finish m d reference fit) (sym (mask-back n mask M)) ∙ ap (λ (c : ℕ). finish (maskOf (has mask) n) c reference fit) freedom ∙ judged false h
+        ap (λ (m : ℕ). finish m d reference fit) (sym (mask-back (R .n) mask M)) ∙ ap (λ (c : ℕ). finish (maskOf (has mask) (R .n)) c reference fit) freedom ∙ judged false h

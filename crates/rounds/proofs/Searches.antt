@@ -1,36 +1,24 @@
--- The outlier rule over an array of residuals: the turns of its loops, and that it comes to the same as the rule over the residuals themselves. Assumes nothing.
+-- The outlier rule over an array of residuals: its loops, and that it comes to the same over residuals that are equal. Assumes nothing.
 use mathlib.Core.Path.{_≡_, refl, sym, ap, ap₂, subst, _∙_}
-use mathlib.Core.Logic.{_⊎_, inl, inr}
+use mathlib.Core.Logic.{inl, inr}
 use mathlib.Core.Option.{Option, none, some}
-use mathlib.Core.Bool.{Bool, true, false, cond}
+use mathlib.Core.Bool.{Bool, true, false, not, cond, _&&_}
 use mathlib.Core.List.{List}
-use Prim.Native.Nat.{ℕ, zero, suc, _+_, _≤_, _<_}
+use Prim.Native.Nat.{ℕ, zero, suc, _+_, _<_}
 use native.Mathlib.Omega.{arith}
 use native.Mathlib.Numerals.{add-one}
 use lib.Dec.{T, ltb, lt→ltb}
-use lib.ListN.{length, getD, set, length-set}
+use lib.ListN.{length, getD, set}
 use lib.Seq.{getD-set-same, getD-set-other}
-use lib.Ieee.{Float, nan, ne, isNan}
+use lib.Ieee.{Float, nan, lt, le, ne, isNan}
 use lib.Ieee.Compare.{differs-from-itself}
-use borrow.Author.Tests.{ltb-true, ltb-false}
 use Rattle.dense.specs.Entries.{nth}
 use Rattle.sets.specs.Sets.{Subset, count}
-use Rattle.sets.specs.Choice.{consider, choose, indexOf}
+use Rattle.sets.specs.Choice.{consider, choose}
 use Rattle.sets.proofs.Tests.{T→eq, eq→T, same-T, lt-suc-cases}
-use Rattle.sets.proofs.Counting.{count-pos}
-use Rattle.sets.proofs.Choosing.{skips, begins, takes, leaves}
-use Rattle.whitening.specs.Whitened.{fillTo}
-use Rattle.rounds.specs.Outliers.{taken}
-
--- ---- one index more of a choice
-pub choice-turn : (p : ℕ → Bool) (beats : ℕ → ℕ → Bool) (k w r : ℕ) → k ≤ 32 → w ≡ indexOf (choose p beats k) → r ≡ taken (p k) (beats k w) k w → r ≡ indexOf (choose p beats (k + 1))
-choice-turn p beats k w r l e h = h ∙ go (p k) refl (ltb w 32) refl (beats k w) refl
-  where
-    go : (c : Bool) → p k ≡ c → (b : Bool) → ltb w 32 ≡ b → (t : Bool) → beats k w ≡ t → cond c (cond b (cond t k w) k) w ≡ indexOf (choose p beats (k + 1))
-    go false f b g t q = skips p beats k w l e f
-    go true f false g t q = begins p beats k w l e f (ltb-false w 32 g)
-    go true f true g true q = takes p beats k w l e f (ltb-true w 32 g) q
-    go true f true g false q = leaves p beats k w l e f (ltb-true w 32 g) q
+use Rattle.sets.proofs.Counting.{count-same, count-pos}
+use Rattle.rounds.specs.Setting.{five}
+use Rattle.rounds.specs.Rounds.{above, greater, worst, near, less, least, noNumber, unnumbered, turned, decided}
 
 -- ---- a residual that is not a number
 pub ne-nan : (x : Float) → ne x x ≡ isNan x
@@ -54,23 +42,12 @@ one-found q i n l e = sym (T→eq (ltb 0 (count q n)) (lt→ltb 0 (count q n) (c
 pub none-found : (q : Subset) (n : ℕ) → count q n ≡ 0 → false ≡ ltb 0 (count q n)
 none-found q n e = sym (ap (ltb 0) e)
 
--- ---- the array holds the residuals
-fill-length : (f : ℕ → Float) (out : List Float) (n : ℕ) → length (fillTo f out n) ≡ length out
-unfolding fillTo
-fill-length f out zero = refl
-fill-length f out (suc n) = length-set (fillTo f out n) n (f n) ∙ fill-length f out n
-
-pub fill-at : (f : ℕ → Float) (out : List Float) (n j : ℕ) → n ≤ length out → j < n → nth (fillTo f out n) j ≡ f j
-unfolding fillTo
-fill-at f out zero j l h = absurd (omega arith)
-fill-at f out (suc n) j l h = go (lt-suc-cases j n h) (λ k. fill-at f out n j (omega arith) k)
-  where
-    known : List Float
-    known = fillTo f out n
-
-    go : (j ≡ n) ⊎ (j < n) → (j < n → nth known j ≡ f j) → getD (set known n (f n)) j nan ≡ f j
-    go (inl e) rec = ap (λ (x : ℕ). getD (set known n (f n)) x nan) e ∙ getD-set-same known n (f n) nan (omega (arith, fill-length f out n)) ∙ ap f (sym e)
-    go (inr k) rec = getD-set-other known n j (f n) nan (λ e. omega arith) ∙ rec k
+-- ---- an array that holds f below i, with f i put at i
+pub put-next : (f : ℕ → Float) (out : List Float) (i : ℕ) (x : Float) → i < length out → ((j : ℕ) → j < i → nth out j ≡ f j) → x ≡ f i → (j : ℕ) → j < i + 1 → nth (set out i x) j ≡ f j
+put-next f out i x l h e j k = elim (lt-suc-cases j i (omega arith)) [
+  | inl q ↦ ap (λ (m : ℕ). getD (set out i x) m nan) q ∙ getD-set-same out i x nan l ∙ e ∙ ap f (sym q)
+  | inr q ↦ getD-set-other out i j x nan (λ d. omega arith) ∙ h j q
+]
 
 -- ---- choices that agree below k
 abbrev Below : ℕ → Option ℕ → Type 0
@@ -104,3 +81,12 @@ module _ (p q : ℕ → Bool) (b c : ℕ → ℕ → Bool) where
       go false o h = refl
       go true none h = refl
       go true (some j) h = ap (λ (t : Bool). cond t (some k) (some j)) (f k j (omega arith) (omega arith))
+
+-- ---- the rule, by residuals that are equal below n
+pub decided-same : {F : Type 0} (K S : Subset) (z y : ℕ → Float) (n : ℕ) (f : F) → ((j : ℕ) → j < n → z j ≡ y j) → decided K S z n f ≡ decided K S y n f
+unfolding decided
+decided-same K S z y n f e =
+    ap (λ (c : ℕ). turned S f (ltb 0 c) (worst S z n) (least K S z n)) (count-same (noNumber K z) (noNumber K y) n (λ j l. ap (λ (x : Float). K j && isNan x) (e j l)))
+    ∙ ap₂ (λ (w l : Option ℕ). turned S f (unnumbered K y n) w l)
+    (choose-same (above S z) (above S y) (greater z) (greater y) n (λ j l. ap (λ (x : Float). S j && lt five x) (e j l)) (λ i j l m. ap₂ lt (e j m) (e i l)))
+    (choose-same (near K S z) (near K S y) (less z) (less y) n (λ j l. ap (λ (x : Float). (K j && not (S j)) && le x five) (e j l)) (λ i j l m. ap₂ lt (e i l) (e j m)))

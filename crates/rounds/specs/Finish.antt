@@ -14,12 +14,12 @@ use Rattle.dense.specs.Inverse.{inverse}
 use Rattle.problem.specs.Problem.{position, moment}
 use Rattle.limits.specs.Local.{row, entry, published}
 use Rattle.damped.specs.declared.Fit.{Fit}
+use Rattle.best.specs.Best.{Outcome, fails, gives}
 use Rattle.record.specs.declared.content.Fix.{Fix}
 use Rattle.rounds.specs.declared.finish.Finished.{Finished}
 use Rattle.rounds.specs.declared.moment.Moment.{Moment}
 use Rattle.rounds.specs.declared.finish.Unpublished.{Unpublished}
 use Rattle.rounds.specs.declared.finish.Unpublished.the-variants.{Singular, Uncertain, OutOfRange}
-use Rattle.rounds.specs.Setting.{Outcome, fails, gives}
 
 -- whether an i64 holds it
 abbrev pub held : ℤ → Bool
@@ -59,23 +59,6 @@ definite (refused l) = false
 unfoldable pub certain : List (List Float) → Bool
 unfolding wide
 certain c = not (wide c) && definite (cholesky (check c) 3 (replicate 9 nought))
-
--- what stands in the fields of a fix where there is none
-abbrev pub nothing : Fix
-nothing =
-    let three = replicate 3 nought in
-    record {
-      mask = 0;
-      dof = 0;
-      ecef = three;
-      t = nought;
-      position = record { «lat_deg» = nought; «lon_deg» = nought; «height_m» = nought };
-      «transmit_ps» = pos 0;
-      r0 = three;
-      r1 = three;
-      r2 = three;
-      chi2 = nought;
-    }
 
 -- what a fix shows: the mask and the degrees of freedom of the used receptions, the fit, its covariance, and the transmit time
 abbrev pub fixOf : ℕ → ℕ → Fit → List (List Float) → ℤ → Fix

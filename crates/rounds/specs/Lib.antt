@@ -1,6 +1,5 @@
 pub mod Setting
 pub mod Finish
 pub mod Rounds
-pub mod Outliers
 pub mod Solve
 pub mod Demand

@@ -3,65 +3,72 @@ use mathlib.Core.Option.{Option, none, some}
 use mathlib.Core.Bool.{Bool, true, false, not, _&&_}
 use Prim.Native.Nat.{ℕ, zero, suc, _+_, _*_}
 use lib.Dec.{ltb}
-use lib.Ieee.{lt, le, isNan}
+use lib.Ieee.{Float, lt, le, isNan}
 use Rattle.sets.specs.Sets.{Subset, without, joined, count}
 use Rattle.sets.specs.Choice.{choose}
 use Rattle.best.specs.declared.Unfit.{Unfit}
+use Rattle.best.specs.Best.{Outcome, fails, gives}
 use Rattle.rounds.specs.declared.answer.Refusal.{Refusal}
 use Rattle.rounds.specs.declared.answer.Refusal.the-variants.{TooFew, Singular}
 use Rattle.rounds.specs.declared.finish.Unpublished.{Unpublished}
-use Rattle.rounds.specs.Setting.{Outcome, fails, gives, ofUnfit, ofUnpublished, Answer, fix, refused, noFixedPoint, Setting, five, kept, survivors}
+use Rattle.rounds.specs.Setting.{ofUnfit, ofUnpublished, Answer, fix, refused, noFixedPoint, Setting, five, kept, survivors}
 
--- what a round comes to
+-- ---- the outlier rule: K are kept and S included, of n receptions with the normalised residuals z
+
+-- `worst`: of those included and above 5 the greatest, the lowest index on ties
+abbrev pub above : Subset → (ℕ → Float) → Subset
+above S z i = S i && lt five (z i)
+
+abbrev pub greater : (ℕ → Float) → ℕ → ℕ → Bool
+greater z i j = lt (z j) (z i)
+
+abbrev pub worst : Subset → (ℕ → Float) → ℕ → Option ℕ
+worst S z n = choose (above S z) (greater z) n
+
+-- `readmit`: of those kept but left out and not above 5 the least, the lowest index on ties
+abbrev pub near : Subset → Subset → (ℕ → Float) → Subset
+near K S z i = (K i && not (S i)) && le (z i) five
+
+abbrev pub less : (ℕ → Float) → ℕ → ℕ → Bool
+less z i j = lt (z i) (z j)
+
+abbrev pub least : Subset → Subset → (ℕ → Float) → ℕ → Option ℕ
+least K S z n = choose (near K S z) (less z) n
+
+-- whether a kept reception's normalised residual is not a number
+abbrev pub noNumber : Subset → (ℕ → Float) → Subset
+noNumber K z i = K i && isNan (z i)
+
+abbrev pub unnumbered : Subset → (ℕ → Float) → ℕ → Bool
+unnumbered K z n = ltb 0 (count (noNumber K z) n)
+
+-- what a round with the best fit f comes to: it ends the solve, changes the included receptions, or settles
 pub data Step (F : Type 0) : Type 0 where
   ends : Refusal → Step F
-  removes : ℕ → F → Step F
-  readmits : ℕ → F → Step F
+  changes : Subset → F → Step F
   settles : F → Step F
 
--- what the residuals at f decide: whether one is not a number, the worst, and the least
-abbrev pub decided : {F : Type 0} → F → Bool → Option ℕ → Option ℕ → Step F
-decided f true w l = ends Singular
-decided f false (some i) l = removes i f
-decided f false none (some i) = readmits i f
-decided f false none none = settles f
+abbrev pub turned : {F : Type 0} → Subset → F → Bool → Option ℕ → Option ℕ → Step F
+turned S f true w l = ends Singular
+turned S f false (some i) l = changes (without S i) f
+turned S f false none (some i) = changes (joined S i) f
+turned S f false none none = settles f
 
--- the answer once the rounds are settled
+unfoldable pub decided : {F : Type 0} → Subset → Subset → (ℕ → Float) → ℕ → F → Step F
+unfolding without joined choose count
+decided K S z n f = turned S f (unnumbered K z n) (worst S z n) (least K S z n)
+
+-- ---- the rounds
+
+-- the answer once they are settled
 abbrev pub closed : {X : Type 0} → Outcome Unpublished X → Answer X
 closed (fails e) = refused (ofUnpublished e)
 closed (gives x) = fix x
 
 module _ {Q F X : Type 0} (P : Setting Q F X) where
-  -- `worst`: of those included in S and above 5 the greatest, the lowest index on ties
-  abbrev pub above : Subset → F → ℕ → Bool
-  above S f i = S i && lt five (P .residual f i)
-
-  abbrev pub greater : F → ℕ → ℕ → Bool
-  greater f i j = lt (P .residual f j) (P .residual f i)
-
-  unfoldable pub worst : Subset → F → Option ℕ
-  unfolding choose
-  worst S f = choose (above S f) (greater f) (P .n)
-
-  -- `readmit`: of those kept but left out and not above 5 the least, the lowest index on ties
-  abbrev pub near : Subset → F → ℕ → Bool
-  near S f i = kept P i && (not (S i) && le (P .residual f i) five)
-
-  abbrev pub less : F → ℕ → ℕ → Bool
-  less f i j = lt (P .residual f i) (P .residual f j)
-
-  unfoldable pub least : Subset → F → Option ℕ
-  unfolding choose
-  least S f = choose (near S f) (less f) (P .n)
-
-  -- how many kept receptions have a normalised residual that is not a number
-  unfoldable pub unnumbered : F → ℕ
-  unfolding count
-  unnumbered f = count (λ j. kept P j && isNan (P .residual f j)) (P .n)
-
   abbrev pub fitted : Subset → Outcome Unfit F → Step F
   fitted S (fails e) = ends (ofUnfit e)
-  fitted S (gives f) = decided f (ltb 0 (unnumbered f)) (worst S f) (least S f)
+  fitted S (gives f) = decided (kept P) S (P .residual f) (P .n) f
 
   -- S has too few, or it is fitted
   abbrev pub begun : Subset → Bool → Outcome Unfit F → Step F
@@ -70,19 +77,18 @@ module _ {Q F X : Type 0} (P : Setting Q F X) where
 
   -- a round over S, after one that found the parameters p
   unfoldable pub round : Subset → Option Q → Step F
+  unfolding decided
   round S p = begun S (ltb (count S (P .n)) (P .minimum)) (P .bestFit S p)
 
   -- the answer after a round over S, where further rounds answer as `go` says
-  unfoldable pub after : (Subset → Option Q → Answer X) → Subset → Step F → Answer X
-  unfolding without joined
+  abbrev pub after : (Subset → Option Q → Answer X) → Subset → Step F → Answer X
   after go S (ends e) = refused e
-  after go S (removes i f) = go (without S i) (some (P .params f))
-  after go S (readmits i f) = go (joined S i) (some (P .params f))
+  after go S (changes R f) = go R (some (P .params f))
   after go S (settles f) = closed (P .later S f)
 
   -- the answer of at most k rounds, from S
   unfoldable pub roundsTo : ℕ → Subset → Option Q → Answer X
-  unfolding round after
+  unfolding round
   roundsTo zero S p = noFixedPoint
   roundsTo (suc k) S p = after (λ R q. roundsTo k R q) S (round S p)
 

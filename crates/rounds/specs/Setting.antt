@@ -8,15 +8,11 @@ use Rattle.sets.specs.Sets.{Subset, count}
 use Rattle.screen.specs.Screen as screen
 use Rattle.best.specs.declared.Unfit.{Unfit}
 use Rattle.best.specs.declared.Unfit.the-variants as unfit
+use Rattle.best.specs.Best.{Outcome}
 use Rattle.rounds.specs.declared.answer.Refusal.{Refusal}
 use Rattle.rounds.specs.declared.answer.Refusal.the-variants.{NoConvergence, OutOfRange, Inconsistent, Singular, Ambiguous, Uncertain}
 use Rattle.rounds.specs.declared.finish.Unpublished.{Unpublished}
 use Rattle.rounds.specs.declared.finish.Unpublished.the-variants as unpublished
-
--- what a step gives, or why it refuses
-pub data Outcome (E A : Type 0) : Type 0 where
-  fails : E → Outcome E A
-  gives : A → Outcome E A
 
 -- Document 01, 'When there is no fix': the refusal by what a best fit meets, and by what the steps after the rounds meet
 abbrev pub ofUnfit : Unfit → Refusal

@@ -4,26 +4,22 @@ use mathlib.Core.List.{List}
 use mathlib.Core.Option.{Option, none, some}
 use Prim.Native.Nat.{ℕ}
 use lib.IntN.{ℤ}
-use lib.ListN.{replicate}
 use lib.Ieee.{Float, lt}
-use Rattle.binary64.specs.Steps.{_⊘_, nought, abs}
+use Rattle.binary64.specs.Steps.{_⊘_, abs}
 use Rattle.dense.specs.Factor.{Factor, found, refused}
-use Rattle.linalg.specs.Methods.{zeros}
-use Rattle.sets.specs.Sets.{Subset, count, membersTo}
-use Rattle.sets.specs.Mask.{maskOf}
-use Rattle.screen.specs.Pair.{fails}
+use Rattle.sets.specs.Sets.{Subset, count}
+use Rattle.sets.specs.Mask.{has, maskOf}
+use Rattle.screen.specs.Pair as pair
 use Rattle.problem.specs.declared.Altitude.{Altitude}
 use Rattle.problem.specs.declared.Altitude.the-variants.{None, Barometric, Gnss}
 use Rattle.problem.specs.declared.Problem.{Problem}
 use Rattle.problem.specs.Problem.{minimum}
-use Rattle.problem.specs.Gathered.{gatherTo, sitesTo}
-use Rattle.whitening.specs.Covariance.{sigma, whitener}
-use Rattle.whitening.specs.Whitened.{Chosen, chosen, residual, whitened}
+use Rattle.whitening.specs.Covariance.{sigma}
+use Rattle.whitening.specs.Whitened.{Chosen, residual, whitened}
 use Rattle.limits.specs.Limits.{dof, roundingNorm, publishedChi2Limit}
-use Rattle.starts.specs.Starts.{startsAfter}
 use Rattle.damped.specs.declared.Fit.{Fit}
-use Rattle.best.specs.declared.Unfit.{Unfit}
-use Rattle.best.specs.Best as best
+use Rattle.best.specs.Best.{Outcome, fails}
+use Rattle.best.specs.OfProblem.{Receptions, receptionsOf, subset, subsetSites, subsetZ, whitenerOver, chosenOver, bestFitOver}
 use Rattle.record.specs.declared.content.Fix.{Fix}
 use Rattle.rounds.specs.declared.answer.Answer as code
 use Rattle.rounds.specs.declared.answer.Case.{Case}
@@ -33,17 +29,12 @@ use Rattle.rounds.specs.declared.answer.Refusal.the-variants.{TooFew, No
 use Rattle.rounds.specs.declared.finish.Unpublished.{Unpublished}
 use Rattle.rounds.specs.declared.finish.Unpublished.the-variants as unpublished
 use Rattle.rounds.specs.declared.fitting.Gathered.{Gathered}
-use Rattle.rounds.specs.Setting.{Outcome, gives, Answer, fix, refused, noFixedPoint, Setting}
-use Rattle.rounds.specs.Setting as setting
+use Rattle.rounds.specs.declared.fitting.State.{State}
+use Rattle.rounds.specs.declared.outliers.Turn.{Turn}
+use Rattle.rounds.specs.declared.outliers.Turn.the-variants.{Ends, Changes, Settles}
+use Rattle.rounds.specs.Setting.{Answer, fix, refused, noFixedPoint, Setting}
 use Rattle.rounds.specs.Finish.{finish}
-use Rattle.rounds.specs.Rounds.{solved}
-
--- `subset`, and its sites and times: the included receptions S in ascending order
-abbrev pub subset : List Float → List Float → ℕ → Subset → Gathered
-subset site z n S =
-    let index = membersTo S (replicate 32 0) n in
-    let k = count S n in
-    record { k = k; index = index; sites = sitesTo site index (replicate 96 nought) k; z = gatherTo z index (replicate 32 nought) k }
+use Rattle.rounds.specs.Rounds.{Step, ends, changes, settles, solved}
 
 abbrev pub hasAltitude : Altitude → Bool
 hasAltitude None = false
@@ -54,63 +45,57 @@ hasAltitude (Gnss metres) = true
 unfoldable pub limitAt : Chosen → ℕ → List Float → Float
 limitAt C dof params = let w = whitened C params in publishedChi2Limit dof (roundingNorm (w .a) (w .b) (w .c) (w .d) (w .count))
 
-abbrev pub fitting : best.Outcome → Outcome Unfit Fit
-fitting (best.found fit) = gives fit
-fitting (best.unfit why) = setting.fails why
-
 -- the normalised residual of reception i at some parameters: `residual(*index, &fit.params).abs() / sigma(*index)`
-unfoldable pub normalised : List Float → List Float → List Float → List Float → ℕ → List Float → ℕ → Float
-normalised site z noise clock n params i = abs (residual site z i params) ⊘ sigma clock n noise i
+unfoldable pub normalised : Receptions → List Float → ℕ → Float
+normalised R params i = abs (residual (R .site) (R .z) i params) ⊘ sigma (R .clock) (R .n) (R .noise) i
 
--- n receptions by their sites, z, noise and clock covariance, and the altitude
-module _ (site z noise clock : List Float) (n : ℕ) (altitude : Altitude) where
-  -- the starts of a round over S: the parameters of the round before it come first
-  abbrev pub startsOf : Subset → Option (List Float) → List (List Float)
-  startsOf S none = let g = subset site z n S in startsAfter false (replicate 4 nought) (g .sites) (g .z) (g .k) altitude
-  startsOf S (some previous) = let g = subset site z n S in startsAfter true previous (g .sites) (g .z) (g .k) altitude
-
-  -- the best fit over S
-  unfoldable pub bestFit : Subset → Option (List Float) → best.Outcome
-  bestFit S p = let g = subset site z n S in best.bestFit clock n noise (g .index) (g .sites) (g .z) (g .k) altitude (startsOf S p)
-
+module _ (R : Receptions) where
   -- the degrees of freedom of the used receptions S
   abbrev pub dofOf : Subset → ℕ
-  dofOf S = dof (count S n) (hasAltitude altitude)
+  dofOf S = dof (count S (R .n)) (hasAltitude (R .altitude))
 
   -- "the source's remaining steps": the whitener again, chi-square, then `finish`
   abbrev pub tested : ℤ → Subset → Fit → Factor → Outcome Unpublished Fix
-  tested reference S fit (refused l) = setting.fails unpublished.Singular
-  tested reference S fit (found l) =
-      let g = subset site z n S in
-      cond (lt (limitAt (chosen (g .k) (g .sites) (g .z) l altitude) (dofOf S) (fit .params)) (fit .cost)) (setting.fails unpublished.Inconsistent) (finish (maskOf S n) (dofOf S) reference fit)
+  tested reference S fit (refused l) = fails unpublished.Singular
+  tested reference S fit (found l) = cond (lt (limitAt (chosenOver R S l) (dofOf S) (fit .params)) (fit .cost)) (fails unpublished.Inconsistent) (finish (maskOf S (R .n)) (dofOf S) reference fit)
 
   unfoldable pub later : ℤ → Subset → Fit → Outcome Unpublished Fix
-  later reference S fit = let g = subset site z n S in tested reference S fit (whitener clock n noise (g .index) (g .k) zeros)
+  later reference S fit = tested reference S fit (whitenerOver R S)
 
   abbrev pub settingOf : (ℕ → ℕ → Bool) → ℤ → Setting (List Float) Fit Fix
-  settingOf fails reference = record {
-    n = n;
-    fails = fails;
-    minimum = minimum altitude;
-    bestFit = λ S p. fitting (bestFit S p);
+  settingOf clashing reference = record {
+    n = R .n;
+    fails = clashing;
+    minimum = minimum (R .altitude);
+    bestFit = λ S p. bestFitOver R S p;
     params = λ fit. fit .params;
-    residual = λ fit i. normalised site z noise clock n (fit .params) i;
+    residual = λ fit i. normalised R (fit .params) i;
     later = λ S fit. later reference S fit;
   }
 
--- the parameters that a round before found, if there was one
-abbrev pub optional : Bool → List Float → Option (List Float)
-optional true previous = some previous
-optional false previous = none
-
 abbrev pub settingAt : Problem → Setting (List Float) Fit Fix
-settingAt P = settingOf (P .site) (P .z) (P .«noise_m2») (P .«clock_m2») (P .n) (P .altitude) (fails (P .time) (P .«site_mm») (P .n)) (P .«reference_ps»)
+settingAt P = settingOf (receptionsOf P) (pair.fails (P .time) (P .«site_mm») (P .n)) (P .«reference_ps»)
 
 -- `solve_problem`
 unfoldable pub solveProblem : Problem → Answer Fix
 solveProblem P = solved (settingAt P)
 
--- an answer as the code tells it
+-- ---- as the code holds them
+
+-- what is gathered of the receptions S
+abbrev pub gathered : List Float → List Float → ℕ → Subset → Gathered
+gathered site z n S = record { k = count S n; index = subset n S; sites = subsetSites site n S; z = subsetZ z n S }
+
+-- the parameters that the round before found, if there was one
+abbrev pub before : State → Option (List Float)
+before s = cond (s .had) (some (s .previous)) none
+
+-- a step by the turn and the fit beside it
+abbrev pub stepOf : Turn → Fit → Step Fit
+stepOf (Ends why) f = ends why
+stepOf (Changes mask) f = changes (has mask) f
+stepOf Settles f = settles f
+
 abbrev pub answerOf : Case → Fix → Answer Fix
 answerOf case.Fix x = fix x
 answerOf (case.Refused why) x = refused why
@@ -119,7 +104,7 @@ answerOf case.NoFixedPoint x = noFixedPoint
 abbrev pub told : code.Answer → Answer Fix
 told r = answerOf (r .case) (r .fix)
 
--- document 01's numbers and details
+-- ---- document 01's numbers and details
 abbrev pub refusalNumber : Refusal → ℕ
 refusalNumber (TooFew included) = 1
 refusalNumber NoConvergence = 2

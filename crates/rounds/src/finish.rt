@@ -5,8 +5,8 @@ ghost use Rattle.dense.specs.Inverse.{inverse};
 ghost use lib.ListN.{replicate};
 ghost use Rattle.binary64.specs.Steps.{nought};
 ghost use Rattle.limits.specs.Local.{published};
-ghost use Rattle.rounds.specs.Setting.{fails};
-ghost use Rattle.rounds.specs.Finish.{nothing, wide, certain, told, fixOf, finish};
+ghost use Rattle.best.specs.Best.{fails};
+ghost use Rattle.rounds.specs.Finish.{wide, certain, told, fixOf, finish};
 use crate::moment::transmit;
 use damped::Fit;
 use record::Fix;
@@ -29,9 +29,9 @@ pub struct Finished {
     pub fix: Fix,
 }
 
-// A fix that shows nothing, where there is none.
+// What stands in the place of a fix where there is none: it uses no reception.
 pub fn nothing() -> Fix
-    ensures { λ r. ⌜ r ≡ nothing ⌝ }
+    ensures { λ r. ⌜ r .mask ≡ 0 ⌝ }
 {
     Fix {
         mask: 0,

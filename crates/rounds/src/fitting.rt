@@ -3,9 +3,17 @@ ghost use mathlib.Core.Path.{_≡_};
 ghost use Prim.Native.Nat.{_≤_};
 ghost use Rattle.sets.specs.Mask.{has};
 ghost use Rattle.best.specs.Best as best;
-ghost use Rattle.rounds.specs.Solve.{subset, optional, bestFit};
+ghost use Rattle.best.specs.OfProblem.{receptions, bestFitOver};
+ghost use Rattle.rounds.specs.Solve.{gathered, before};
 use best::Best;
 use problem::Altitude;
+
+// The included receptions, and the parameters that the round before found if it `had` any.
+pub struct State {
+    pub included: u32,
+    pub had: bool,
+    pub previous: [f64; 4],
+}
 
 // k receptions by their indices, sites and times.
 pub struct Gathered {
@@ -18,7 +26,7 @@ pub struct Gathered {
 // The included receptions.
 pub fn subset(site: &[f64; 96], z: &[f64; 32], n: usize, included: u32) -> Gathered
     requires { ⌜ n ≤ 32 ⌝ }
-    ensures { λ r. ⌜ r ≡ subset (now (site .entry)) (now (z .entry)) n (has included) ⌝ }
+    ensures { λ r. ⌜ r ≡ gathered (now (site .entry)) (now (z .entry)) n (has included) ⌝ }
 {
     let mut index = [0usize; 32];
     let k = sets::members(included, n, &mut index);
@@ -34,7 +42,7 @@ pub fn subset(site: &[f64; 96], z: &[f64; 32], n: usize, included: u32) -> Gathe
     }
 }
 
-// Their best fit, where `previous` leads the starts if a round before `had` found it.
+// Their best fit, where the parameters of the round before lead the starts.
 pub fn fit_included(
     site: &[f64; 96],
     z: &[f64; 32],
@@ -42,13 +50,14 @@ pub fn fit_included(
     clock: &[f64; 1024],
     n: usize,
     altitude: Altitude,
-    included: u32,
-    had: bool,
-    previous: [f64; 4],
+    state: State,
 ) -> Best
     requires { ⌜ n ≤ 32 ⌝ }
-    ensures { λ r. ⌜ best.told r ≡ bestFit (now (site .entry)) (now (z .entry)) (now (noise .entry)) (now (clock .entry)) n altitude (has included) (optional had previous) ⌝ }
+    ensures { λ r. ⌜ best.told r ≡ bestFitOver (receptions (now (site .entry)) (now (z .entry)) (now (noise .entry)) (now (clock .entry)) n altitude) (has (state .included)) (before state) ⌝ }
 {
+    let included = state.included;
+    let had = state.had;
+    let previous = state.previous;
     let chosen = subset(site, z, n, included);
     let k = chosen.k;
     let index = chosen.index;

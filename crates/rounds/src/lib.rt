@@ -11,18 +11,90 @@ pub use answer::Answer;
 pub use answer::Case;
 pub use answer::Refusal;
 ghost use mathlib.Core.Path.{_≡_};
-ghost use Prim.Native.Nat.{_≤_};
-ghost use Rattle.rounds.specs.Solve.{told, solveProblem};
+ghost use mathlib.Core.Bool.{Bool};
+ghost use mathlib.Core.Option.{none, some};
+ghost use Prim.Native.Nat.{ℕ, _≤_, _<_, _^_};
+ghost use Rattle.sets.specs.Mask.{has};
+ghost use Rattle.screen.specs.Screen as screen;
+ghost use Rattle.best.specs.OfProblem.{receptions};
+ghost use Rattle.rounds.specs.Rounds.{solved};
+ghost use Rattle.rounds.specs.Solve.{settingOf, solveProblem, before, told};
 use answer::no_fixed_point;
 use answer::of_finished;
 use answer::refused;
+use damped::Fit;
+use fitting::State;
 use outliers::Turn;
+use problem::Altitude;
 use problem::Problem;
 use round::round;
 use settled::settled;
 
-// Solves one transmission's problem. The rounds' state is the included receptions and the last round's
-// parameters, where there was one.
+// The rounds start with all kept receptions, and no round before.
+fn first(kept: u32) -> State
+    ensures { λ r. ⌜ (r .included ≡ kept) × (before r ≡ none) ⌝ }
+{
+    let previous = [0.0; 4];
+    State {
+        included: kept,
+        had: false,
+        previous,
+    }
+}
+
+// The rounds go on with the included receptions, after one with this fit.
+fn changed(included: u32, fit: Fit) -> State
+    ensures { λ r. ⌜ (r .included ≡ included) × (before r ≡ some (fit .params)) ⌝ }
+{
+    let previous = fit.params;
+    State {
+        included,
+        had: true,
+        previous,
+    }
+}
+
+// The rounds' loop: each starts from the last one's fit.
+fn outlier_rounds(
+    site: &[f64; 96],
+    z: &[f64; 32],
+    noise: &[f64; 32],
+    clock: &[f64; 1024],
+    n: usize,
+    altitude: Altitude,
+    reference: i64,
+    kept: u32,
+) -> Answer
+    requires { ⌜ (n ≤ 32) × (kept < 2 ^ n) ⌝ }
+    ensures { λ r. ⌜ ((fails : ℕ → ℕ → Bool) → has kept ≡ screen.kept n fails → told r ≡ solved (settingOf (receptions (now (site .entry)) (now (z .entry)) (now (noise .entry)) (now (clock .entry)) n altitude) fails reference)) ⌝ }
+{
+    let rounds = 2 * sets::count(kept) + 2;
+    let mut state = first(kept);
+    let mut k = 0u32;
+    while k < rounds {
+        let step = round(site, z, noise, clock, n, altitude, kept, state);
+        let turn = step.turn;
+        let fit = step.fit;
+        let used = state.included;
+        match turn {
+            Turn::Ends(why) => {
+                return refused(why);
+            }
+            Turn::Changes(included) => {
+                state = changed(included, fit);
+                k += 1;
+                continue;
+            }
+            Turn::Settles => {
+                let end = settled(site, z, noise, clock, n, altitude, reference, used, fit);
+                return of_finished(end);
+            }
+        }
+    }
+    no_fixed_point()
+}
+
+// Solves one transmission's problem.
 pub fn solve_problem(p: Problem) -> Answer
     requires { ⌜ p .n ≤ 32 ⌝ }
     ensures { λ r. ⌜ told r ≡ solveProblem p ⌝ }
@@ -37,58 +109,5 @@ pub fn solve_problem(p: Problem) -> Answer
     let noise = p.noise_m2;
     let clock = p.clock_m2;
     let kept = screen::screen(&time, &site_mm, n);
-    let rounds = 2 * sets::count(kept) + 2;
-    let mut included = kept;
-    let mut had = false;
-    let mut previous = [0.0; 4];
-    let mut k = 0u32;
-    while k < rounds {
-        let found = round(
-            &site,
-            &z,
-            &noise,
-            &clock,
-            n,
-            altitude,
-            kept,
-            included,
-            had,
-            previous,
-        );
-        let turn = found.turn;
-        let fit = found.fit;
-        match turn {
-            Turn::Ends(why) => {
-                return refused(why);
-            }
-            Turn::Removes(i) => {
-                included = sets::without(included, i);
-                had = true;
-                previous = fit.params;
-                k += 1;
-                continue;
-            }
-            Turn::Readmits(i) => {
-                included = sets::joined(included, i);
-                had = true;
-                previous = fit.params;
-                k += 1;
-                continue;
-            }
-            Turn::Settles => {
-                return of_finished(settled(
-                    &site,
-                    &z,
-                    &noise,
-                    &clock,
-                    n,
-                    altitude,
-                    reference_ps,
-                    included,
-                    fit,
-                ));
-            }
-        }
-    }
-    no_fixed_point()
+    outlier_rounds(&site, &z, &noise, &clock, n, altitude, reference_ps, kept)
 }

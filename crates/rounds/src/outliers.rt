@@ -1,24 +1,26 @@
 // The outlier rule: normalised residuals, and what they decide.
 ghost use mathlib.Core.Path.{_≡_};
-ghost use Prim.Native.Nat.{_≤_, _<_};
-ghost use lib.Dec.{ltb};
-ghost use lib.ListN.{replicate};
-ghost use Rattle.binary64.specs.Steps.{nought};
+ghost use mathlib.Core.Bool.{cond, _&&_, _||_};
+ghost use Prim.Native.Nat.{ℕ, _≤_, _<_, _^_};
+ghost use lib.Dec.{leb};
+ghost use Rattle.dense.specs.Entries.{nth};
 ghost use Rattle.sets.specs.Mask.{has};
 ghost use Rattle.sets.specs.Choice.{indexOf};
-ghost use Rattle.whitening.specs.Whitened.{fillTo};
-ghost use Rattle.rounds.specs.Solve.{normalised};
-ghost use Rattle.rounds.specs.Outliers.{taken, noNumberIn, unnumberedIn, aboveIn, greaterIn, worstIn, nearIn, lessIn, leastIn, decidedIn};
+ghost use Rattle.problem.specs.declared.Altitude.{Altitude};
+ghost use Rattle.damped.specs.declared.Fit as fit;
+ghost use Rattle.best.specs.OfProblem.{receptions};
+ghost use Rattle.rounds.specs.declared.outliers.Turn.the-variants.{Changes};
+ghost use Rattle.rounds.specs.Rounds.{noNumber, unnumbered, above, greater, worst, near, less, least, decided};
+ghost use Rattle.rounds.specs.Solve.{normalised, stepOf};
 use crate::Refusal;
 
 // The threshold on a reception's normalised residual: of solve.rs.
 const OUTLIER_Z: f64 = 5.0;
 
-// What a round comes to, beside its fit.
+// What a round comes to, beside its fit: a refusal, other receptions included, or neither.
 pub enum Turn {
     Ends(Refusal),
-    Removes(usize),
-    Readmits(usize),
+    Changes(u32),
     Settles,
 }
 
@@ -33,7 +35,7 @@ fn normalised(
     i: usize,
 ) -> f64
     requires { ⌜ (n ≤ 32) × (i < n) ⌝ }
-    ensures { λ r. ⌜ r ≡ normalised (now (site .entry)) (now (z .entry)) (now (noise .entry)) (now (clock .entry)) n params i ⌝ }
+    ensures { λ r. ⌜ ((altitude : Altitude) → r ≡ normalised (receptions (now (site .entry)) (now (z .entry)) (now (noise .entry)) (now (clock .entry)) n altitude) params i) ⌝ }
 {
     let raw = whitening::residual(site, z, i, params);
     binary64::abs(raw) / whitening::sigma(clock, n, noise, i)
@@ -49,7 +51,7 @@ pub fn residuals(
     params: [f64; 4],
 ) -> [f64; 32]
     requires { ⌜ n ≤ 32 ⌝ }
-    ensures { λ r. ⌜ r ≡ fillTo (normalised (now (site .entry)) (now (z .entry)) (now (noise .entry)) (now (clock .entry)) n params) (replicate 32 nought) n ⌝ }
+    ensures { λ r. ⌜ ((altitude : Altitude) (j : ℕ) → j < n → nth r j ≡ normalised (receptions (now (site .entry)) (now (z .entry)) (now (noise .entry)) (now (clock .entry)) n altitude) params j) ⌝ }
 {
     let mut out = [0.0; 32];
     for i in 0..n {
@@ -61,7 +63,7 @@ pub fn residuals(
 // Whether reception i is kept and its residual not a number.
 fn no_number(kept: u32, z: &[f64; 32], i: usize) -> bool
     requires { ⌜ i < 32 ⌝ }
-    ensures { λ r. ⌜ r ≡ noNumberIn (has kept) (now (z .entry)) i ⌝ }
+    ensures { λ r. ⌜ r ≡ noNumber (has kept) (nth (now (z .entry))) i ⌝ }
 {
     if sets::has(kept, i) {
         let x = z[i];
@@ -73,7 +75,7 @@ fn no_number(kept: u32, z: &[f64; 32], i: usize) -> bool
 // Whether a kept reception's residual is not a number.
 fn unnumbered(kept: u32, z: &[f64; 32], n: usize) -> bool
     requires { ⌜ n ≤ 32 ⌝ }
-    ensures { λ r. ⌜ r ≡ ltb 0 (unnumberedIn (has kept) (now (z .entry)) n) ⌝ }
+    ensures { λ r. ⌜ r ≡ unnumbered (has kept) (nth (now (z .entry))) n ⌝ }
 {
     for i in 0..n {
         if no_number(kept, z, i) {
@@ -83,10 +85,23 @@ fn unnumbered(kept: u32, z: &[f64; 32], n: usize) -> bool
     false
 }
 
+// Reception i where it is a candidate and better, and otherwise the one chosen so far.
+fn taken(candidate: bool, better: bool, i: usize, chosen: usize) -> usize
+    ensures { λ r. ⌜ r ≡ cond (candidate && better) i chosen ⌝ }
+{
+    if candidate {
+        if better {
+            return i;
+        }
+        return chosen;
+    }
+    chosen
+}
+
 // Whether reception i is included and above the threshold.
 fn above(included: u32, z: &[f64; 32], i: usize) -> bool
     requires { ⌜ i < 32 ⌝ }
-    ensures { λ r. ⌜ r ≡ aboveIn (has included) (now (z .entry)) i ⌝ }
+    ensures { λ r. ⌜ r ≡ above (has included) (nth (now (z .entry))) i ⌝ }
 {
     if sets::has(included, i) {
         return z[i] > OUTLIER_Z;
@@ -94,31 +109,25 @@ fn above(included: u32, z: &[f64; 32], i: usize) -> bool
     false
 }
 
-// The worst so far, or reception i where it is a candidate and greater.
-fn worse(candidate: bool, z: &[f64; 32], i: usize, worst: usize) -> usize
+// Whether reception i is greater than the worst so far, or there is none.
+fn greater(z: &[f64; 32], i: usize, worst: usize) -> bool
     requires { ⌜ i < 32 ⌝ }
-    ensures { λ r. ⌜ r ≡ taken candidate (greaterIn (now (z .entry)) i worst) i worst ⌝ }
+    ensures { λ r. ⌜ r ≡ (leb 32 worst || greater (nth (now (z .entry))) i worst) ⌝ }
 {
-    if candidate {
-        if worst < sets::NONE {
-            if z[i] > z[worst] {
-                return i;
-            }
-            return worst;
-        }
-        return i;
+    if worst < sets::NONE {
+        return z[i] > z[worst];
     }
-    worst
+    true
 }
 
 // The worst included reception above the threshold, the lowest index on ties, or NONE.
 fn worst(included: u32, z: &[f64; 32], n: usize) -> usize
     requires { ⌜ n ≤ 32 ⌝ }
-    ensures { λ r. ⌜ r ≡ indexOf (worstIn (has included) (now (z .entry)) n) ⌝ }
+    ensures { λ r. ⌜ r ≡ indexOf (worst (has included) (nth (now (z .entry))) n) ⌝ }
 {
     let mut worst = sets::NONE;
     for i in 0..n {
-        worst = worse(above(included, z, i), z, i, worst);
+        worst = taken(above(included, z, i), greater(z, i, worst), i, worst);
     }
     worst
 }
@@ -126,7 +135,7 @@ fn worst(included: u32, z: &[f64; 32], n: usize) -> usize
 // Whether reception i is kept but left out, and not above the threshold.
 fn near(kept: u32, included: u32, z: &[f64; 32], i: usize) -> bool
     requires { ⌜ i < 32 ⌝ }
-    ensures { λ r. ⌜ r ≡ nearIn (has kept) (has included) (now (z .entry)) i ⌝ }
+    ensures { λ r. ⌜ r ≡ near (has kept) (has included) (nth (now (z .entry))) i ⌝ }
 {
     if sets::has(kept, i) {
         if sets::has(included, i) {
@@ -137,50 +146,44 @@ fn near(kept: u32, included: u32, z: &[f64; 32], i: usize) -> bool
     false
 }
 
-// The least so far, or reception i where it is a candidate and less.
-fn lesser(candidate: bool, z: &[f64; 32], i: usize, least: usize) -> usize
+// Whether reception i is less than the least so far, or there is none.
+fn less(z: &[f64; 32], i: usize, least: usize) -> bool
     requires { ⌜ i < 32 ⌝ }
-    ensures { λ r. ⌜ r ≡ taken candidate (lessIn (now (z .entry)) i least) i least ⌝ }
+    ensures { λ r. ⌜ r ≡ (leb 32 least || less (nth (now (z .entry))) i least) ⌝ }
 {
-    if candidate {
-        if least < sets::NONE {
-            if z[i] < z[least] {
-                return i;
-            }
-            return least;
-        }
-        return i;
+    if least < sets::NONE {
+        return z[i] < z[least];
     }
-    least
+    true
 }
 
 // The least left-out reception not above the threshold, the lowest index on ties, or NONE.
 fn least(kept: u32, included: u32, z: &[f64; 32], n: usize) -> usize
     requires { ⌜ n ≤ 32 ⌝ }
-    ensures { λ r. ⌜ r ≡ indexOf (leastIn (has kept) (has included) (now (z .entry)) n) ⌝ }
+    ensures { λ r. ⌜ r ≡ indexOf (least (has kept) (has included) (nth (now (z .entry))) n) ⌝ }
 {
     let mut least = sets::NONE;
     for i in 0..n {
-        least = lesser(near(kept, included, z, i), z, i, least);
+        least = taken(near(kept, included, z, i), less(z, i, least), i, least);
     }
     least
 }
 
 // What the residuals decide: 6 where one is not a number, then a removal, then a return.
 pub fn decided(kept: u32, included: u32, z: &[f64; 32], n: usize) -> Turn
-    requires { ⌜ n ≤ 32 ⌝ }
-    ensures { λ r. ⌜ r ≡ decidedIn (ltb 0 (unnumberedIn (has kept) (now (z .entry)) n)) (worstIn (has included) (now (z .entry)) n) (leastIn (has kept) (has included) (now (z .entry)) n) ⌝ }
+    requires { ⌜ (n ≤ 32) × (included < 2 ^ n) ⌝ }
+    ensures { λ r. ⌜ ((f : fit.Fit) → stepOf r f ≡ decided (has kept) (has included) (nth (now (z .entry))) n f) × ((m : ℕ) → r ≡ Changes m → m < 2 ^ n) ⌝ }
 {
     if unnumbered(kept, z, n) {
         return Turn::Ends(Refusal::Singular);
     }
     let out = worst(included, z, n);
     if out < sets::NONE {
-        return Turn::Removes(out);
+        return Turn::Changes(sets::without(included, out));
     }
     let back = least(kept, included, z, n);
     if back < sets::NONE {
-        return Turn::Readmits(back);
+        return Turn::Changes(sets::joined(included, back));
     }
     Turn::Settles
 }

@@ -5,12 +5,13 @@ ghost use Prim.Native.Nat.{ℕ, _≤_, _<_, _^_};
 ghost use lib.IntN.{ℤ};
 ghost use Rattle.sets.specs.Mask.{has};
 ghost use Rattle.screen.specs.Screen as screen;
+ghost use Rattle.best.specs.OfProblem.{receptions};
 ghost use Rattle.rounds.specs.Rounds as rounds;
-ghost use Rattle.rounds.specs.declared.outliers.Turn.the-variants.{Ends};
-ghost use Rattle.rounds.specs.Outliers.{stepOf};
-ghost use Rattle.rounds.specs.Solve.{optional, settingOf};
+ghost use Rattle.rounds.specs.declared.outliers.Turn.the-variants.{Ends, Changes};
+ghost use Rattle.rounds.specs.Solve.{before, settingOf, stepOf};
 use crate::Refusal;
 use crate::answer::of_unfit;
+use crate::fitting::State;
 use crate::fitting::fit_included;
 use crate::outliers::Turn;
 use crate::outliers::decided;
@@ -41,7 +42,7 @@ fn ended(why: Refusal) -> Step
     }
 }
 
-// A round over the included receptions, after one that found `previous` if it `had` any.
+// A round over the included receptions.
 pub fn round(
     site: &[f64; 96],
     z: &[f64; 32],
@@ -50,18 +51,17 @@ pub fn round(
     n: usize,
     altitude: Altitude,
     kept: u32,
-    included: u32,
-    had: bool,
-    previous: [f64; 4],
+    state: State,
 ) -> Step
-    requires { ⌜ (n ≤ 32) × (included < 2 ^ n) ⌝ }
-    ensures { λ r. ⌜ ((fails : ℕ → ℕ → Bool) (reference : ℤ) → has kept ≡ screen.kept n fails → stepOf (r .turn) (r .fit) ≡ rounds.round (settingOf (now (site .entry)) (now (z .entry)) (now (noise .entry)) (now (clock .entry)) n altitude fails reference) (has included) (optional had previous)) ⌝ }
+    requires { ⌜ (n ≤ 32) × (state .included < 2 ^ n) ⌝ }
+    ensures { λ r. ⌜ ((fails : ℕ → ℕ → Bool) (reference : ℤ) → has kept ≡ screen.kept n fails → stepOf (r .turn) (r .fit) ≡ rounds.round (settingOf (receptions (now (site .entry)) (now (z .entry)) (now (noise .entry)) (now (clock .entry)) n altitude) fails reference) (has (state .included)) (before state)) × ((m : ℕ) → r .turn ≡ Changes m → m < 2 ^ n) ⌝ }
 {
+    let included = state.included;
     let count = sets::count(included);
     if count < problem::minimum(altitude) {
         return ended(Refusal::TooFew(count));
     }
-    let best = fit_included(site, z, noise, clock, n, altitude, included, had, previous);
+    let best = fit_included(site, z, noise, clock, n, altitude, state);
     if best.found {
         let fit = best.fit;
         let params = fit.params;

@@ -2,11 +2,12 @@
 use mathlib.Core.Path.{_≡_, refl, sym, ap, ap₂, subst, _∙_}
 use mathlib.Core.Logic.{_⊎_, inl, inr}
 use mathlib.Core.Option.{Option, none, some}
-use mathlib.Core.Bool.{Bool, true, false, not, cond}
+use mathlib.Core.Bool.{Bool, true, false, not, cond, _&&_, _||_}
 use Prim.Native.Nat.{ℕ, zero, suc, _+_, _≤_, _<_}
 use native.Mathlib.Omega.{arith}
 use native.Mathlib.Numerals.{add-one}
-use lib.Dec.{T, T-not, not-T, ltb, ltb→lt, nltb→le}
+use lib.Dec.{T, T-not, not-T, ltb, leb, ltb→lt, nltb→le}
+use borrow.Author.Tests.{le-leb, lt-leb}
 use Rattle.sets.specs.Choice.{consider, choose, indexOf, FirstBest, IsChoice, Ranks, PassFindsChoice, OneChoice}
 use Rattle.sets.proofs.Tests.{either, eq→T, eq→F, lt-suc-cases}
 
@@ -147,3 +148,13 @@ module _ (p : ℕ → Bool) (beats : ℕ → ℕ → Bool) (k w : ℕ) (s : k �
   pub leaves : p k ≡ true → w < 32 → beats k w ≡ false → w ≡ indexOf (choose p beats (k + 1))
   unfolding consider
   leaves f h b = turn true (some w) w f (chosen-some h) (rw b refl)
+
+  -- all four at once: k goes in where it is a candidate, and there is none yet or it is better
+  pub choice-turn : (r : ℕ) → r ≡ cond (p k && (leb 32 w || beats k w)) k w → r ≡ indexOf (choose p beats (k + 1))
+  choice-turn r h = h ∙ go (p k) refl (either (ltb w 32)) (beats k w) refl
+    where
+      go : (c : Bool) → p k ≡ c → T (ltb w 32) ⊎ T (not (ltb w 32)) → (b : Bool) → beats k w ≡ b → cond (c && (leb 32 w || b)) k w ≡ indexOf (choose p beats (k + 1))
+      go false f l b q = skips f
+      go true f (inl l) true q = let m = ltb→lt w 32 l in ap (λ (x : Bool). cond (x || true) k w) (lt-leb 32 w m) ∙ takes f m q
+      go true f (inl l) false q = let m = ltb→lt w 32 l in ap (λ (x : Bool). cond (x || false) k w) (lt-leb 32 w m) ∙ leaves f m q
+      go true f (inr l) b q = let m = nltb→le w 32 l in ap (λ (x : Bool). cond (x || b) k w) (le-leb 32 w m) ∙ begins f m

@@ -1,7 +1,7 @@
--- What the code's operations on masks do to the sets, and that a mask is known by its set. Assumes nothing.
+-- What the code's operations on masks do to the sets, and that a mask and its set are known by each other. Assumes nothing.
 use mathlib.Core.Path.{_≡_, refl, sym, ap, ap₂, subst, fun-ext, _∙_}
 use mathlib.Core.Logic.{_⊎_, inl, inr}
-use mathlib.Core.Bool.{Bool, not, _&&_, _||_}
+use mathlib.Core.Bool.{Bool, true, false, not, _&&_, _||_}
 use Prim.Native.Nat.{ℕ, zero, suc, _+_, _-_, _*_, _/_, _%_, _^_, _≤_, _<_}
 use native.Mathlib.Nat.{one-mul, pow-suc, lt-of-lt-of-le}
 use native.Mathlib.Omega.{arith}
@@ -12,8 +12,9 @@ use lib.Count.{ones, ones-step}
 use Rattle.sets.specs.Sets.{Subset, first, joined, without, bit, count}
 use Rattle.sets.specs.Mask.{has, maskOf}
 use Rattle.sets.proofs.Tests.{either, T→eq, F→eq}
+use Rattle.sets.proofs.Belonging.{subset-ext}
 use Rattle.sets.proofs.Counting.{count-same}
-use Rattle.sets.proofs.Digits.{has-suc, has-low, has-zero, has-beyond, has-and, has-or, has-pow, has-not}
+use Rattle.sets.proofs.Digits.{has-suc, has-low, has-zero, has-below, has-beyond, has-and, has-or, has-pow, has-not}
 
 -- 1 << i, as the prover has it
 pub one-bit : (i : ℕ) → i < 32 → 1 * 2 ^ i % 2 ^ 32 ≡ 2 ^ i
@@ -79,3 +80,36 @@ mask-back (suc n) m h =
     mask-low (has m) n
     ∙ ap₂ (λ (x y : ℕ). x + 2 * y) (has-low m) (mask-same (λ (j : ℕ). has m (suc j)) (has (m / 2)) n (λ j l. has-suc m j) ∙ mask-back n (m / 2) (omega (arith, pow-suc 2 n)))
     ∙ omega arith
+
+-- ---- and the mask of a set of receptions below n has that set
+bit-same : (a b : Bool) → bit a ≡ bit b → a ≡ b
+bit-same true true e = refl
+bit-same true false e = absurd (omega arith)
+bit-same false true e = absurd (omega arith)
+bit-same false false e = refl
+
+bit-le : (b : Bool) → bit b ≤ 1
+bit-le true = omega arith
+bit-le false = omega arith
+
+has-mask : (S : Subset) (n j : ℕ) → j < n → has (maskOf S n) j ≡ S j
+has-mask S zero j h = absurd (omega arith)
+has-mask S (suc n) zero h =
+    bit-same (has (maskOf S (suc n)) 0) (S 0) (has-low (maskOf S (suc n)) ∙ ap (λ (m : ℕ). m % 2) (mask-low S n) ∙ omega (arith, bit-le (S 0)))
+has-mask S (suc n) (suc j) h =
+    has-suc (maskOf S (suc n)) j ∙ ap (λ (m : ℕ). has m j) (ap (λ (m : ℕ). m / 2) (mask-low S n) ∙ omega (arith, bit-le (S 0))) ∙ has-mask (λ i. S (suc i)) n j (omega arith)
+
+mask-lt : (S : Subset) (n : ℕ) → maskOf S n < 2 ^ n
+unfolding maskOf
+mask-lt S zero = omega arith
+mask-lt S (suc n) = go (S n) (mask-lt S n)
+  where
+    go : (b : Bool) → maskOf S n < 2 ^ n → bit b * 2 ^ n + maskOf S n < 2 ^ suc n
+    go true h = omega (arith, pow-suc 2 n)
+    go false h = omega (arith, pow-suc 2 n)
+
+pub set-of-mask : (S : Subset) (n : ℕ) → ((j : ℕ) → T (S j) → j < n) → has (maskOf S n) ≡ S
+set-of-mask S n w = subset-ext (has (maskOf S n)) S (λ j. (
+  (λ t. let l = has-below n (maskOf S n) j (mask-lt S n) t in subst T (has-mask S n j l) t),
+  (λ t. subst T (sym (has-mask S n j (w j t))) t),
+))

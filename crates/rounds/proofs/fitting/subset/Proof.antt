@@ -1,4 +1,4 @@
--- `fitting::subset` meets its contract, call by call: the indices are below n, of which there are at most 32. Assumes nothing.
+-- `rounds::fitting::subset` meets its contract. Call by call: the indices are below n, of which there are at most 32. Assumes nothing.
 use borrow.Author.Needs.{needs}
 use mathlib.Core.Path.{refl}
 use native.Mathlib.Nat.{lt-of-lt-of-le}
@@ -11,10 +11,16 @@ members-requires : tie.Need-members-requires
 members-requires c κs = search needs
 
 gather-sites-requires : tie.Need-gather-sites-requires
-gather-sites-requires c κs = rw (c .before .before .members .ensures .0, c .before .before .members .ensures .1) (few (has (c .before .before .before .before .args .included)) (c .before .before .before .before .args .n) (c .before .before .before .before .pre), λ a h. lt-of-lt-of-le (picks (has (c .before .before .before .before .args .included)) (c .before .before .before .before .args .n) (c .before .before .before .before .pre) a h) (c .before .before .before .before .pre))
+gather-sites-requires c κs =
+    let s = (c .before .before .before .before) in
+    let S = has (s .args .included) in
+    rw (c .before .before .members .ensures .0, c .before .before .members .ensures .1) (few S (s .args .n) (s .pre), λ a h. lt-of-lt-of-le (picks S (s .args .n) (s .pre) a h) (s .pre))
 
 gather-requires : tie.Need-gather-requires
-gather-requires c κs = rw (c .before .before .before .before .before .members .ensures .0, c .before .before .before .before .before .members .ensures .1) (few (has (c .before .before .before .before .before .before .before .args .included)) (c .before .before .before .before .before .before .before .args .n) (c .before .before .before .before .before .before .before .pre), λ a h. lt-of-lt-of-le (picks (has (c .before .before .before .before .before .before .before .args .included)) (c .before .before .before .before .before .before .before .args .n) (c .before .before .before .before .before .before .before .pre) a h) (c .before .before .before .before .before .before .before .pre))
+gather-requires c κs =
+    let s = (c .before .before .before .before .before .before .before) in
+    let S = has (s .args .included) in
+    rw (c .before .before .before .before .before .members .ensures .0, c .before .before .before .before .before .members .ensures .1) (few S (s .args .n) (s .pre), λ a h. lt-of-lt-of-le (picks S (s .args .n) (s .pre) a h) (s .pre))
 
 returns : tie.Need-returns
 returns c = rw (c .gather .ensures, c .before .before .before .gather-sites .ensures, c .before .before .before .before .before .before .members .ensures .1, c .before .before .before .before .before .before .members .ensures .0) refl

@@ -1,6 +1,5 @@
--- `outliers::above` meets its contract, by whether i is included. Assumes nothing.
+-- `rounds::outliers::above` meets its contract. By whether i is included. Assumes nothing.
 use borrow.Author.Needs.{needs}
-use mathlib.Core.Path.{refl}
 use Rattle.rounds.proofs.outliers.above.Statement.{statement}
 use Rattle.rounds.proofs.outliers.above.Tie as tie
 
@@ -14,10 +13,10 @@ element-copy-out-result : tie.Need-element-copy-out-result
 element-copy-out-result c = search needs
 
 returns : tie.Need-returns
-returns c = rw (← c .before .before .has .ensures, c .before .if1 .taken) refl
+returns c = rw (← c .before .before .has .ensures, c .before .if1 .taken)
 
 returns-2 : tie.Need-returns-2
-returns-2 c = rw (← c .before .has .ensures, c .if1 .left) refl
+returns-2 c = rw (← c .before .has .ensures, c .if1 .left)
 
 pub above-spec : {M : Type 1} → statement M
 above-spec =

@@ -1,17 +1,19 @@
--- `outliers::least` meets its contract: it holds the choice among the receptions below i (`choice-turn`). Assumes nothing.
+-- `rounds::outliers::least` meets its contract. It holds the choice among the receptions below i (`choice-turn`). Assumes nothing.
 use borrow.Author.Needs.{needs}
 use mathlib.Core.Path.{_≡_, refl}
 use Prim.Native.Nat.{_-_, _≤_}
 use native.Mathlib.Omega.{arith}
+use Rattle.dense.specs.Entries.{nth}
 use Rattle.sets.specs.Mask.{has}
 use Rattle.sets.specs.Choice.{choose, indexOf}
-use Rattle.rounds.specs.Outliers.{nearIn, lessIn, leastIn}
-use Rattle.rounds.proofs.Searches.{choice-turn}
+use Rattle.sets.proofs.Choosing.{choice-turn}
+use Rattle.rounds.specs.Rounds.{near, less}
+use Rattle.rounds.specs.Rounds as rounds
 use Rattle.rounds.proofs.outliers.least.Statement.{statement}
 use Rattle.rounds.proofs.outliers.least.Tie as tie
 
 abbrev Inv-loop : tie.InvT-loop
-Inv-loop kept included z n least₀ i₀ least i = (i ≤ n) × (least ≡ indexOf (leastIn (has kept) (has included) z i))
+Inv-loop kept included z n least₀ i₀ least i = (i ≤ n) × (least ≡ indexOf (rounds.least (has kept) (has included) (nth z) i))
 
 abbrev μ-loop : tie.MeasureT-loop
 μ-loop kept included z n least₀ i₀ least i = n - i
@@ -23,8 +25,11 @@ loop-holds c = (omega arith, refl)
 near-requires : tie.Need-near-requires Inv-loop μ-loop
 near-requires c κs = search needs
 
-lesser-requires : tie.Need-lesser-requires Inv-loop μ-loop
-lesser-requires c κs = search needs
+less-requires : tie.Need-less-requires Inv-loop μ-loop
+less-requires c κs = search needs
+
+taken-requires : tie.Need-taken-requires Inv-loop μ-loop
+taken-requires c κs = search needs
 
 add-i : tie.Need-add-i Inv-loop μ-loop
 add-i c = search needs
@@ -33,7 +38,10 @@ loop-less : tie.Need-loop-less Inv-loop μ-loop
 loop-less c = search needs
 
 loop-again : tie.Need-loop-again Inv-loop μ-loop
-loop-again c = (omega arith, choice-turn (nearIn (has (c .before .before .before .before .args .kept)) (has (c .before .before .before .before .args .included)) (c .before .before .before .before .args .z .now)) (lessIn (c .before .before .before .before .args .z .now)) (c .before .before .before .loop .i) (c .before .before .before .loop .least) (c .lesser .result) (omega arith) (c .before .before .before .loop .inv .1) (rw (c .before .near .ensures) at (c .lesser .ensures)))
+loop-again c =
+    let s = c .before .before .before .before .before .args in
+    let at = c .before .before .before .before .loop in
+    (omega arith, choice-turn (near (has (s .kept)) (has (s .included)) (nth (s .z .now))) (less (nth (s .z .now))) (at .i) (at .least) (omega arith) (at .inv .1) (c .taken .result) (rw (c .before .before .near .ensures, c .before .less .ensures) at (c .taken .ensures)))
 
 returns : tie.Need-returns Inv-loop μ-loop
 returns c = let e : c .before .loop .i ≡ c .before .before .args .n = omega arith in rw e at (c .before .loop .inv .1)
@@ -46,7 +54,8 @@ least-spec =
     μ-loop
     loop-holds
     near-requires
-    lesser-requires
+    less-requires
+    taken-requires
     add-i
     loop-less
     loop-again

@@ -1,6 +1,5 @@
--- `outliers::no_number` meets its contract: a not-a-number alone differs from itself. Assumes nothing.
+-- `rounds::outliers::no_number` meets its contract. A not-a-number alone differs from itself. Assumes nothing.
 use borrow.Author.Needs.{needs}
-use mathlib.Core.Path.{refl}
 use Rattle.rounds.proofs.Searches.{ne-nan}
 use Rattle.rounds.proofs.outliers.no_number.Statement.{statement}
 use Rattle.rounds.proofs.outliers.no_number.Tie as tie
@@ -15,10 +14,10 @@ element-copy-out-x : tie.Need-element-copy-out-x
 element-copy-out-x c = search needs
 
 returns : tie.Need-returns
-returns c = rw (← c .before .before .has .ensures, c .before .if1 .taken, ← ne-nan) refl
+returns c = rw (← c .before .before .has .ensures, c .before .if1 .taken, ← ne-nan)
 
 returns-2 : tie.Need-returns-2
-returns-2 c = rw (← c .before .has .ensures, c .if1 .left) refl
+returns-2 c = rw (← c .before .has .ensures, c .if1 .left)
 
 pub no-number-spec : {M : Type 1} → statement M
 no-number-spec =

@@ -1,4 +1,4 @@
--- `outliers::normalised` meets its contract, call by call. Assumes nothing.
+-- `rounds::outliers::normalised` meets its contract. Call by call. Assumes nothing.
 use borrow.Author.Needs.{needs}
 use Rattle.rounds.specs.Solve.{normalised}
 use Rattle.rounds.proofs.outliers.normalised.Statement.{statement}
@@ -15,7 +15,7 @@ sigma-requires c κs = search needs
 
 returns : tie.Need-returns
 unfolding normalised
-returns c = rw (← c .before .before .residual .ensures, ← c .before .abs .ensures, ← c .sigma .ensures)
+returns c = λ altitude. rw (← c .before .before .residual .ensures, ← c .before .abs .ensures, ← c .sigma .ensures)
 
 pub normalised-spec : {M : Type 1} → statement M
 normalised-spec =

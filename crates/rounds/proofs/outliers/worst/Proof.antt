@@ -1,17 +1,19 @@
--- `outliers::worst` meets its contract: it holds the choice among the receptions below i (`choice-turn`). Assumes nothing.
+-- `rounds::outliers::worst` meets its contract. It holds the choice among the receptions below i (`choice-turn`). Assumes nothing.
 use borrow.Author.Needs.{needs}
 use mathlib.Core.Path.{_≡_, refl}
 use Prim.Native.Nat.{_-_, _≤_}
 use native.Mathlib.Omega.{arith}
+use Rattle.dense.specs.Entries.{nth}
 use Rattle.sets.specs.Mask.{has}
 use Rattle.sets.specs.Choice.{choose, indexOf}
-use Rattle.rounds.specs.Outliers.{aboveIn, greaterIn, worstIn}
-use Rattle.rounds.proofs.Searches.{choice-turn}
+use Rattle.sets.proofs.Choosing.{choice-turn}
+use Rattle.rounds.specs.Rounds.{above, greater}
+use Rattle.rounds.specs.Rounds as rounds
 use Rattle.rounds.proofs.outliers.worst.Statement.{statement}
 use Rattle.rounds.proofs.outliers.worst.Tie as tie
 
 abbrev Inv-loop : tie.InvT-loop
-Inv-loop included z n worst₀ i₀ worst i = (i ≤ n) × (worst ≡ indexOf (worstIn (has included) z i))
+Inv-loop included z n worst₀ i₀ worst i = (i ≤ n) × (worst ≡ indexOf (rounds.worst (has included) (nth z) i))
 
 abbrev μ-loop : tie.MeasureT-loop
 μ-loop included z n worst₀ i₀ worst i = n - i
@@ -23,8 +25,11 @@ loop-holds c = (omega arith, refl)
 above-requires : tie.Need-above-requires Inv-loop μ-loop
 above-requires c κs = search needs
 
-worse-requires : tie.Need-worse-requires Inv-loop μ-loop
-worse-requires c κs = search needs
+greater-requires : tie.Need-greater-requires Inv-loop μ-loop
+greater-requires c κs = search needs
+
+taken-requires : tie.Need-taken-requires Inv-loop μ-loop
+taken-requires c κs = search needs
 
 add-i : tie.Need-add-i Inv-loop μ-loop
 add-i c = search needs
@@ -33,7 +38,10 @@ loop-less : tie.Need-loop-less Inv-loop μ-loop
 loop-less c = search needs
 
 loop-again : tie.Need-loop-again Inv-loop μ-loop
-loop-again c = (omega arith, choice-turn (aboveIn (has (c .before .before .before .before .args .included)) (c .before .before .before .before .args .z .now)) (greaterIn (c .before .before .before .before .args .z .now)) (c .before .before .before .loop .i) (c .before .before .before .loop .worst) (c .worse .result) (omega arith) (c .before .before .before .loop .inv .1) (rw (c .before .above .ensures) at (c .worse .ensures)))
+loop-again c =
+    let s = c .before .before .before .before .before .args in
+    let at = c .before .before .before .before .loop in
+    (omega arith, choice-turn (above (has (s .included)) (nth (s .z .now))) (greater (nth (s .z .now))) (at .i) (at .worst) (omega arith) (at .inv .1) (c .taken .result) (rw (c .before .before .above .ensures, c .before .greater .ensures) at (c .taken .ensures)))
 
 returns : tie.Need-returns Inv-loop μ-loop
 returns c = let e : c .before .loop .i ≡ c .before .before .args .n = omega arith in rw e at (c .before .loop .inv .1)
@@ -46,7 +54,8 @@ worst-spec =
     μ-loop
     loop-holds
     above-requires
-    worse-requires
+    greater-requires
+    taken-requires
     add-i
     loop-less
     loop-again

@@ -1,13 +1,24 @@
--- `round::round` meets its contract: each test picks the definition's case (Turns.antt). Assumes nothing.
+-- `rounds::round::round` meets its contract. Each test picks the definition's case (Turns.antt). Assumes nothing.
 use borrow.Author.Needs.{needs}
-use mathlib.Core.Path.{ap, _∙_}
+use mathlib.Core.Path.{_≡_, sym, ap, _∙_}
+use Prim.Native.Nat.{ℕ}
+use native.Mathlib.Omega.{arith}
+use Rattle.best.specs.OfProblem.{Receptions, receptions}
+use Rattle.rounds.specs.declared.answer.Refusal.{Refusal}
 use Rattle.rounds.specs.declared.outliers.Turn.{Turn}
+use Rattle.rounds.specs.declared.outliers.Turn.the-variants.{Ends, Changes}
 use Rattle.rounds.specs.Rounds.{ends}
-use Rattle.rounds.specs.Outliers.{stepOf}
-use Rattle.rounds.specs.Solve.{optional}
+use Rattle.rounds.specs.Solve.{before, stepOf}
 use Rattle.rounds.proofs.Turns.{round-few, round-unfit, round-fitted}
 use Rattle.rounds.proofs.round.round.Statement.{statement}
 use Rattle.rounds.proofs.round.round.Tie as tie
+
+abbrev heard : tie.Start → Receptions
+heard s = receptions (s .args .site .now) (s .args .z .now) (s .args .noise .now) (s .args .clock .now) (s .args .n) (s .args .altitude)
+
+-- a round that ends makes no change
+no-change : (t : Turn) (why : Refusal) → t ≡ Ends why → (m : ℕ) → t ≡ Changes m → ⊥
+no-change t why e m q = let z : _≡_ {A = ℕ} 0 1 = cc in omega arith
 
 count-requires : tie.Need-count-requires
 count-requires c κs = search needs
@@ -19,7 +30,12 @@ ended-requires : tie.Need-ended-requires
 ended-requires c κs = search needs
 
 returns : tie.Need-returns
-returns c = λ bad reference h. ap (λ (t : Turn). stepOf t (c .ended .result .fit)) (c .ended .ensures) ∙ round-few (c .before .before .before .before .args .site .now) (c .before .before .before .before .args .z .now) (c .before .before .before .before .args .noise .now) (c .before .before .before .before .args .clock .now) (c .before .before .before .before .args .n) (c .before .before .before .before .args .altitude) bad reference (c .before .before .before .before .pre .0) (c .before .before .before .before .args .included) (c .before .before .before .before .pre .1) (optional (c .before .before .before .before .args .had) (c .before .before .before .before .args .previous)) (c .before .before .before .count .result) (c .before .before .before .count .ensures) (rw (c .before .before .minimum .ensures) at (c .before .if1 .taken))
+returns c =
+    let s = (c .before .before .before .before) in
+    let n = c .before .before .before .count in (
+      λ bad reference h. ap (λ (t : Turn). stepOf t (c .ended .result .fit)) (c .ended .ensures) ∙ round-few (heard s) bad reference (s .pre .0) (s .args .state .included) (s .pre .1) (before (s .args .state)) (n .result) (n .ensures) (rw (c .before .before .minimum .ensures) at (c .before .if1 .taken)),
+      λ m q. absurd (no-change (c .ended .result .turn) _ (c .ended .ensures) m q),
+    )
 
 fit-included-requires : tie.Need-fit-included-requires
 fit-included-requires c κs = search needs
@@ -31,7 +47,13 @@ decided-requires : tie.Need-decided-requires
 decided-requires c κs = search needs
 
 returns-2 : tie.Need-returns-2
-returns-2 c = λ bad reference h. round-fitted (c .before .before .before .before .before .before .before .before .before .before .args .site .now) (c .before .before .before .before .before .before .before .before .before .before .args .z .now) (c .before .before .before .before .before .before .before .before .before .before .args .noise .now) (c .before .before .before .before .before .before .before .before .before .before .args .clock .now) (c .before .before .before .before .before .before .before .before .before .before .args .n) (c .before .before .before .before .before .before .before .before .before .before .args .altitude) bad reference (c .before .before .before .before .before .before .before .before .before .before .pre .0) (c .before .before .before .before .before .before .before .before .before .before .args .included) (c .before .before .before .before .before .before .before .before .before .before .pre .1) (optional (c .before .before .before .before .before .before .before .before .before .before .args .had) (c .before .before .before .before .before .before .before .before .before .before .args .previous)) (c .before .before .before .before .before .before .before .before .before .count .result) (c .before .before .before .before .before .before .before .before .before .count .ensures) (rw (c .before .before .before .before .before .before .before .before .minimum .ensures) at (c .before .before .before .before .before .before .before .if1 .left)) (c .before .before .before .before .before .before .fit-included .result) (c .before .before .before .before .before .before .fit-included .ensures) (c .before .before .before .before .before .if2 .taken) (c .before .before .before .before .before .before .before .before .before .before .args .kept) h (c .before .before .residuals .result) (c .before .before .residuals .ensures) (c .decided .result) (c .decided .ensures)
+returns-2 c =
+    let s = (c .before .before .before .before .before .before .before .before .before .before) in
+    let n = c .before .before .before .before .before .before .before .before .before .count in
+    let best = c .before .before .before .before .before .before .fit-included in (
+      λ bad reference h. round-fitted (heard s) bad reference (s .pre .0) (s .args .state .included) (s .pre .1) (before (s .args .state)) (n .result) (n .ensures) (rw (c .before .before .before .before .before .before .before .before .minimum .ensures) at (c .before .before .before .before .before .before .before .if1 .left)) (best .result) (best .ensures) (c .before .before .before .before .before .if2 .taken) (s .args .kept) h (c .before .before .residuals .result) (c .before .before .residuals .ensures (s .args .altitude)) (c .decided .result) (c .decided .ensures .0 (best .result .fit)),
+      c .decided .ensures .1,
+    )
 
 of-unfit-requires : tie.Need-of-unfit-requires
 of-unfit-requires c κs = search needs
@@ -40,7 +62,13 @@ ended-requires-2 : tie.Need-ended-requires-2
 ended-requires-2 c κs = search needs
 
 returns-3 : tie.Need-returns-3
-returns-3 c = λ bad reference h. ap (λ (t : Turn). stepOf t (c .ended2 .result .fit)) (c .ended2 .ensures) ∙ ap ends (c .before .of-unfit .ensures) ∙ round-unfit (c .before .before .before .before .before .before .before .args .site .now) (c .before .before .before .before .before .before .before .args .z .now) (c .before .before .before .before .before .before .before .args .noise .now) (c .before .before .before .before .before .before .before .args .clock .now) (c .before .before .before .before .before .before .before .args .n) (c .before .before .before .before .before .before .before .args .altitude) bad reference (c .before .before .before .before .before .before .before .pre .0) (c .before .before .before .before .before .before .before .args .included) (c .before .before .before .before .before .before .before .pre .1) (optional (c .before .before .before .before .before .before .before .args .had) (c .before .before .before .before .before .before .before .args .previous)) (c .before .before .before .before .before .before .count .result) (c .before .before .before .before .before .before .count .ensures) (rw (c .before .before .before .before .before .minimum .ensures) at (c .before .before .before .before .if1 .left)) (c .before .before .before .fit-included .result) (c .before .before .before .fit-included .ensures) (c .before .before .if2 .left)
+returns-3 c =
+    let s = (c .before .before .before .before .before .before .before) in
+    let n = c .before .before .before .before .before .before .count in
+    let best = c .before .before .before .fit-included in (
+      λ bad reference h. ap (λ (t : Turn). stepOf t (c .ended2 .result .fit)) (c .ended2 .ensures) ∙ ap ends (c .before .of-unfit .ensures) ∙ round-unfit (heard s) bad reference (s .pre .0) (s .args .state .included) (s .pre .1) (before (s .args .state)) (n .result) (n .ensures) (rw (c .before .before .before .before .before .minimum .ensures) at (c .before .before .before .before .if1 .left)) (best .result) (best .ensures) (c .before .before .if2 .left),
+      λ m q. absurd (no-change (c .ended2 .result .turn) _ (c .ended2 .ensures) m q),
+    )
 
 pub round-spec : {M : Type 1} → statement M
 round-spec =

@@ -1,0 +1,134 @@
+-- `rounds::outlier_rounds` meets its contract. The invariant: from the state, the rounds that are left give the answer (`Left`), whichever pairs fail. Assumes nothing.
+use borrow.Author.Needs.{needs}
+use mathlib.Core.Path.{_≡_, sym, ap, subst, _∙_}
+use mathlib.Core.Bool.{Bool}
+use Prim.Native.Nat.{ℕ, _+_, _*_, _-_, _^_, _≤_, _<_}
+use native.Mathlib.Omega.{arith}
+use lib.IntN.{ℤ}
+use mir.Syntax.{w64}
+use mir.ValLaws.{toZ-ofZ}
+use Rattle.sets.specs.Mask.{has}
+use Rattle.sets.proofs.Counting.{count-le}
+use Rattle.screen.specs.Screen as screen
+use Rattle.best.specs.OfProblem.{Receptions, receptions}
+use Rattle.rounds.specs.Rounds.{closed}
+use Rattle.rounds.proofs.Runs.{Left, left-start, left-ends, left-settles, left-changes, left-never}
+use Rattle.rounds.proofs.outlier_rounds.Statement.{statement}
+use Rattle.rounds.proofs.outlier_rounds.Tie as tie
+
+abbrev Inv-loop : tie.InvT-loop
+Inv-loop site z noise clock n altitude reference kept rounds state₀ k₀ state k = (k ≤ rounds) × (state .included < 2 ^ n) × ((bad : ℕ → ℕ → Bool) (ref : ℤ) → has kept ≡ screen.kept n bad → (l : n ≤ 32) → Left (receptions site z noise clock n altitude) bad ref l (rounds - k) state)
+
+abbrev μ-loop : tie.MeasureT-loop
+μ-loop site z noise clock n altitude reference kept rounds state₀ k₀ state k = rounds - k
+
+abbrev heard : tie.Start Inv-loop μ-loop → Receptions
+heard s = receptions (s .args .site .now) (s .args .z .now) (s .args .noise .now) (s .args .clock .now) (s .args .n) (s .args .altitude)
+
+count-requires : tie.Need-count-requires Inv-loop μ-loop
+count-requires c κs = search needs
+
+mul-rounds : tie.Need-mul-rounds Inv-loop μ-loop
+mul-rounds c = omega (arith, c .count .ensures, count-le (has (c .before .args .kept)) 32)
+
+add-rounds : tie.Need-add-rounds Inv-loop μ-loop
+add-rounds c = omega (arith, c .count .ensures, count-le (has (c .before .args .kept)) 32)
+
+first-requires : tie.Need-first-requires Inv-loop μ-loop
+first-requires c κs = search needs
+
+loop-holds : tie.Need-loop-holds Inv-loop μ-loop
+loop-holds c = (omega arith, subst (λ (m : ℕ). m < 2 ^ c .before .before .args .n) (sym (c .first .ensures .0)) (c .before .before .pre .1), λ bad ref e l. left-start (heard ((c .before .before))) bad ref l (c .first .result) (c .before .before .args .kept) (c .before .count .result) (c .first .ensures .0) (c .first .ensures .1) e (c .before .before .pre .1) (c .before .count .ensures))
+
+round-requires : tie.Need-round-requires Inv-loop μ-loop
+round-requires c κs = (c .before .before .before .before .pre .0, c .before .loop .inv .1)
+
+enum-known-turn : tie.Need-enum-known-turn Inv-loop μ-loop
+enum-known-turn c = search needs
+
+refused-requires : tie.Need-refused-requires Inv-loop μ-loop
+refused-requires c κs = search needs
+
+returns : tie.Need-returns Inv-loop μ-loop
+returns c = λ bad e.
+    let s = (c .before .before .before .before .before .before .before .before .before .before) in
+    let at = c .before .before .before .before .before .before .before .loop in
+    let made = c .before .before .before .before .before .round in
+    c .refused .ensures ∙ left-ends (heard s) bad (s .args .reference) (s .pre .0) (at .k) (2 * c .before .before .before .before .before .before .before .before .before .count .result + 2) (at .state) (made .result .turn) (made .result .fit) (made .ensures .0 bad (s .args .reference) e) (c .before .before .before .before .before .before .loop-test .taken) (at .inv .2 bad (s .args .reference) e (s .pre .0)) _ (c .before .before .turn .given .1)
+
+enum-known-turn-2 : tie.Need-enum-known-turn-2 Inv-loop μ-loop
+enum-known-turn-2 c = search needs
+
+changed-requires : tie.Need-changed-requires Inv-loop μ-loop
+changed-requires c κs = search needs
+
+add-k : tie.Need-add-k Inv-loop μ-loop
+add-k c = omega (arith, c .before .before .before .before .before .before .before .before .before .count .ensures, count-le (has (c .before .before .before .before .before .before .before .before .before .before .args .kept)) 32)
+
+loop-less : tie.Need-loop-less Inv-loop μ-loop
+loop-less c = search needs
+
+loop-again : tie.Need-loop-again Inv-loop μ-loop
+loop-again c =
+    let s = (c .before .before .before .before .before .before .before .before .before .before) in
+    let at = c .before .before .before .before .before .before .before .loop in
+    let made = c .before .before .before .before .before .round in
+    let is = c .before .before .turn2 .given .1 in
+    let next = c .changed in (
+      omega arith,
+      subst (λ (m : ℕ). m < 2 ^ s .args .n) (sym (next .ensures .0)) (made .ensures .1 _ is),
+      λ bad ref e l. left-changes (heard s) bad ref l (at .k) (2 * c .before .before .before .before .before .before .before .before .before .count .result + 2) (at .state) (made .result .turn) (made .result .fit) (made .ensures .0 bad ref e) (c .before .before .before .before .before .before .loop-test .taken) (at .inv .2 bad ref e l) _ is (next .result) (next .ensures .0) (next .ensures .1),
+    )
+
+enum-told : tie.Need-enum-told Inv-loop μ-loop
+enum-told c = search needs
+
+settled-requires : tie.Need-settled-requires Inv-loop μ-loop
+settled-requires c κs = (c .before .before .before .before .before .before .before .before .pre .0, c .before .before .before .before .before .loop .inv .1)
+
+of-finished-requires : tie.Need-of-finished-requires Inv-loop μ-loop
+of-finished-requires c κs = search needs
+
+returns-2 : tie.Need-returns-2 Inv-loop μ-loop
+returns-2 c = λ bad e.
+    let s = (c .before .before .before .before .before .before .before .before .before .before) in
+    let at = c .before .before .before .before .before .before .before .loop in
+    let made = c .before .before .before .before .before .round in
+    c .of-finished .ensures ∙ ap closed (rw (toZ-ofZ w64 (s .args .reference) (s .fits .reference)) at (c .before .settled .ensures))
+    ∙ left-settles (heard s) bad (s .args .reference) (s .pre .0) (at .k) (2 * c .before .before .before .before .before .before .before .before .before .count .result + 2) (at .state) (made .result .turn) (made .result .fit) (made .ensures .0 bad (s .args .reference) e) (c .before .before .before .before .before .before .loop-test .taken) (at .inv .2 bad (s .args .reference) e (s .pre .0)) (c .before .before .enum-told .given .1)
+
+no-fixed-point-requires : tie.Need-no-fixed-point-requires Inv-loop μ-loop
+no-fixed-point-requires c κs = search needs
+
+returns-3 : tie.Need-returns-3 Inv-loop μ-loop
+returns-3 c = λ bad e.
+    let s = (c .before .before .before .before .before) in
+    let at = c .before .before .loop in
+    c .no-fixed-point .ensures ∙ left-never (heard s) bad (s .args .reference) (s .pre .0) (at .k) (2 * c .before .before .before .before .count .result + 2) (at .state) (c .before .loop-test .left) (at .inv .2 bad (s .args .reference) e (s .pre .0))
+
+pub outlier-rounds-spec : {M : Type 1} → statement M
+outlier-rounds-spec =
+    tie.close
+    (tie.spec
+    Inv-loop
+    μ-loop
+    count-requires
+    mul-rounds
+    add-rounds
+    first-requires
+    loop-holds
+    round-requires
+    enum-known-turn
+    refused-requires
+    returns
+    enum-known-turn-2
+    changed-requires
+    add-k
+    loop-less
+    loop-again
+    enum-told
+    settled-requires
+    of-finished-requires
+    returns-2
+    no-fixed-point-requires
+    returns-3)
