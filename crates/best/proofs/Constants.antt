@@ -1,9 +1,8 @@
 -- The constants have the bits that the code has, computed by the definitions of binary64. Assumes nothing.
 use mathlib.Core.Path.{_≡_, refl}
 use lib.Ieee.{round, neg, ofBits}
-use Rattle.binary64.specs.Steps.{#}
+use Rattle.binary64.specs.Steps.{#, decimal}
 use Rattle.best.specs.Plausible.{minHeightM, maxHeightM, maxRangeM}
-use Rattle.best.specs.Best.{ambiguousCost}
 
 pub lowest : minHeightM ≡ # 0xC097700000000000
 unfolding minHeightM round neg ofBits
@@ -17,6 +16,7 @@ pub farthest : maxRangeM ≡ # 0x41224F8000000000
 unfolding maxRangeM round ofBits
 farthest = refl
 
-pub nine : ambiguousCost ≡ # 0x4022000000000000
-unfolding ambiguousCost round ofBits
+-- `AMBIGUOUS_COST`
+pub nine : decimal 9 0 ≡ # 0x4022000000000000
+unfolding round ofBits
 nine = refl

@@ -1,7 +1,7 @@
 -- What each loop over the fits has found, and what one fit more adds. Assumes nothing.
 use mathlib.Core.Path.{_≡_, refl, sym, ap, ap₂, subst, fun-ext, _∙_}
 use mathlib.Core.Logic.{_⊎_, inl, inr}
-use mathlib.Core.Bool.{Bool, true, false, not, _&&_, _||_}
+use mathlib.Core.Bool.{Bool, true, false, not, cond, _&&_, _||_}
 use mathlib.Core.List.{List, [], _∷_, _++_, map, map-append}
 use Prim.Native.Nat.{ℕ, suc, _+_, _≤_, _<_, min}
 use native.Mathlib.Omega.{arith}
@@ -10,13 +10,13 @@ use lib.Dec.{T, ltb, leb, eqb, ltb→lt, nltb→le}
 use lib.ListN.{length, set, take, length-take, List·getD-eq-default}
 use lib.Seq.{take-suc-set, getD-take}
 use lib.Ieee.{Float, le}
-use borrow.Author.Tests.{le-leb, lt-leb, lt-ltb, eq-eqb, ne-eqb}
+use borrow.Author.Tests.{le-leb, lt-ltb, eq-eqb, ne-eqb}
 use Rattle.sets.specs.Sets.{Subset, joined, count}
 use Rattle.sets.specs.Mask.{has}
 use Rattle.sets.specs.Choice.{choose, indexOf}
 use Rattle.sets.proofs.Tests.{either}
 use Rattle.sets.proofs.Digits.{has-zero}
-use Rattle.sets.proofs.Choosing.{skips, begins, takes, leaves}
+use Rattle.sets.proofs.Choosing.{choice-turn}
 use Rattle.damped.specs.declared.Fit.{Fit}
 use Rattle.starts.specs.Points.{point}
 use Rattle.best.specs.Best.{nothing, fitAt, cheaper, pointsTo}
@@ -99,31 +99,18 @@ module _ (S : Subset) (fits : List Fit) where
   top-start least = record { index = refl; cost = λ h. absurd (omega arith) }
 
   module _ (i top : ℕ) (least cost : Float) (h : i < 32) (e : cost ≡ fitAt fits i .cost) (t : Top i top least) (r : Bool) (f : r ≡ (S i && (leb 32 top || not (le least cost)))) where
-    beaten : top < 32 → r ≡ (S i && cheaper fits i top)
-    beaten l = f ∙ rw (lt-leb 32 top l, t .cost l, e)
+    -- the code's test of least and cost is the definition's
+    tested : r ≡ (S i && (leb 32 top || cheaper fits i top))
+    tested = f ∙ elim (either (ltb top 32)) [
+      | inl l ↦ ap₂ (λ (x y : Float). S i && (leb 32 top || not (le x y))) (t .cost (ltb→lt top 32 l)) e
+      | inr l ↦ let none = le-leb 32 top (nltb→le top 32 l) in ap (λ (x : Bool). S i && (x || not (le least cost))) none ∙ sym (ap (λ (x : Bool). S i && (x || cheaper fits i top)) none)
+    ]
+
+    turn : (b : Bool) → r ≡ b → cond b i top ≡ indexOf (choose S (cheaper fits) (i + 1))
+    turn b g = choice-turn S (cheaper fits) i top (omega arith) (t .index) (cond b i top) (ap (λ (x : Bool). cond x i top) (sym g ∙ tested))
 
     pub top-taken : r ≡ true → Top (i + 1) i cost
-    top-taken g = record { index = go (S i) refl (either (ltb top 32)); cost = λ l. e }
-      where
-        no : false ≡ true → ⊥
-        no z = subst T (sym z) tt
-
-        go : (s : Bool) → S i ≡ s → T (ltb top 32) ⊎ T (not (ltb top 32)) → i ≡ indexOf (choose S (cheaper fits) (i + 1))
-        go false d q = absurd (no (ap (λ (x : Bool). x && (leb 32 top || not (le least cost))) (sym d) ∙ sym f ∙ g))
-        go true d (inl l) =
-            let m = ltb→lt top 32 l in
-            takes S (cheaper fits) i top (omega arith) (t .index) d m (ap (λ (x : Bool). x && cheaper fits i top) (sym d) ∙ sym (beaten m) ∙ g)
-        go true d (inr m) = begins S (cheaper fits) i top (omega arith) (t .index) d (nltb→le top 32 m)
+    top-taken g = record { index = turn true g; cost = λ l. e }
 
     pub top-left : r ≡ false → Top (i + 1) top least
-    top-left g = record { index = go (S i) refl (either (ltb top 32)); cost = t .cost }
-      where
-        no : true ≡ false → ⊥
-        no z = subst T z tt
-
-        go : (s : Bool) → S i ≡ s → T (ltb top 32) ⊎ T (not (ltb top 32)) → top ≡ indexOf (choose S (cheaper fits) (i + 1))
-        go false d q = skips S (cheaper fits) i top (omega arith) (t .index) d
-        go true d (inl l) =
-            let m = ltb→lt top 32 l in
-            leaves S (cheaper fits) i top (omega arith) (t .index) d m (ap (λ (x : Bool). x && cheaper fits i top) (sym d) ∙ sym (beaten m) ∙ g)
-        go true d (inr m) = absurd (no (sym (rw (d, le-leb 32 top (nltb→le top 32 m)) at f) ∙ g))
+    top-left g = record { index = turn false g; cost = t .cost }

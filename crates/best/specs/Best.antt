@@ -34,13 +34,9 @@ pub data Outcome (E A : Type 0) : Type 0 where
 abbrev pub told : Best → Outcome Unfit Fit
 told r = cond (r .found) (gives (r .fit)) (fails (r .why))
 
--- `AMBIGUOUS_COST`
-unfoldable pub ambiguousCost : Float
-ambiguousCost = decimal 9 0
-
--- `other.cost > best.cost + AMBIGUOUS_COST`. Document 01: "Cost equal to best plus 9 is still weighed".
+-- `other.cost > best.cost + AMBIGUOUS_COST`, which is 9. Document 01: "Cost equal to best plus 9 is still weighed".
 abbrev pub costlier : Fit → Fit → Bool
-costlier best other = lt (best .cost ⊕ ambiguousCost) (other .cost)
+costlier best other = lt (best .cost ⊕ decimal 9 0) (other .cost)
 
 -- "squared Mahalanobis distance of the four parameters under the best's information": delta · (information delta)
 unfoldable pub distance : Fit → Fit → Float

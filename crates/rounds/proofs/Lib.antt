@@ -3,8 +3,8 @@ pub mod Choices
 pub mod Steps
 pub mod Chains
 pub mod Claim
-pub mod Moments
 pub mod Certainty
+pub mod Moments
 pub mod Finished
 pub mod Searches
 pub mod Points

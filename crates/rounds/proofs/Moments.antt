@@ -1,5 +1,5 @@
 -- The transmit time: places of an i64 counted from the least, and what the cast to i128 gives of a binary64. Assumes nothing.
-use mathlib.Core.Path.{_≡_, refl, sym, ap, subst, _∙_}
+use mathlib.Core.Path.{_≡_, refl, sym, ap, ap₂, subst, _∙_}
 use mathlib.Core.Bool.{Bool, true, false, cond, true≢false, false≢true}
 use Prim.Native.Nat.{ℕ, zero, suc, _+_, _-_, _*_, _/_, _^_, _≤_, _<_, min}
 use native.Mathlib.Nat.{le-trans, le-of-lt, le-add-left, lt-of-lt-of-le, le-div-iff-mul-le, div-lt-iff-lt-mul, div-eq-of-lt, min-eq-left, le-min}
@@ -13,9 +13,13 @@ use mir.Syntax.{w64}
 use mir.Val.{toZ, ofZ, SFits}
 use mir.ValLaws.{toZ-pos, toZ-ofZ}
 use borrow.Author.Tests.{ltb-true, ltb-false, le-ltb, lt-ltb}
+use Rattle.binary64.specs.Steps.{_⊗_, _⊘_, #}
+use Rattle.binary64.specs.Rounding.{halfAway}
 use Rattle.binary64.proofs.Patterns.{is-nan}
+use Rattle.geo.proofs.Constants.{light}
 use Rattle.rounds.specs.declared.moment.Moment.{Moment}
-use Rattle.rounds.specs.Finish.{held, beyond, momentOf}
+use Rattle.rounds.specs.Finish.{held, beyond, momentOf, transmitPs}
+use Rattle.rounds.proofs.Certainty.{second}
 
 -- ---- places
 pub place-of : (x : ℤ) → mag x < 2 ^ 63 → pos (natAbs (x -ℤ negsuc (2 ^ 63 - 1))) ≡ x +ℤ pos (2 ^ 63)
@@ -218,8 +222,9 @@ far-earlier x k f h = earlier-beyond x (natAbs (x -ℤ negsuc (2 ^ 63 - 1))) (pl
     place-lt (negsuc n) f = rw (le-ltb (2 ^ 63) (suc n) (omega arith)) (omega arith)
 
 -- ---- the transmit time by its rounded picoseconds r, where the code's tests put it
-pub by-cast : (x z : ℤ) (r : Float) (m : Moment) → toSigned 127 r ≡ z → m ≡ momentOf (x +ℤ z) → m ≡ momentOf (x +ℤ toSigned 127 r)
-by-cast x z r m e h = h ∙ ap (λ (y : ℤ). momentOf (x +ℤ y)) (sym e)
+pub by-cast : (x z : ℤ) (t r : Float) (m : Moment) → r ≡ halfAway (t ⊘ # 0x41B1DE784A000000 ⊗ # 0x426D1A94A2000000) → toSigned 127 r ≡ z → m ≡ momentOf (x +ℤ z) → m ≡ momentOf (transmitPs x t)
+unfolding transmitPs
+by-cast x z t r m R e h = h ∙ ap (λ (y : ℤ). momentOf (x +ℤ y)) (sym e ∙ ap (toSigned 127) (R ∙ ap₂ (λ (c s : Float). halfAway (t ⊘ c ⊗ s)) (sym light) (sym second)))
 
 held-fits : (z : ℤ) → held z ≡ true → SFits w64 z
 held-fits (pos n) h = record { sfits = ltb-true n (2 ^ 63) h }

@@ -46,19 +46,17 @@ unfoldable pub wide : List (List Float) → Bool
 unfolding maxVarianceM2
 wide c = lt maxVarianceM2 (entry c 0 0) || (lt maxVarianceM2 (entry c 1 1) || lt maxVarianceM2 (entry c 2 2))
 
--- `check`: the covariance as a matrix
-abbrev pub check : List (List Float) → List Float
-check c = entry c 0 0 ∷ entry c 0 1 ∷ entry c 0 2 ∷ entry c 1 0 ∷ entry c 1 1 ∷ entry c 1 2 ∷ entry c 2 0 ∷ entry c 2 1 ∷ entry c 2 2 ∷ []
-
 -- `is_some` of a factor
 abbrev pub definite : Factor → Bool
 definite (found l) = true
 definite (refused l) = false
 
--- the covariance passes both tests of `finish`
+-- the covariance passes both tests of `finish`; `check` is its matrix
 unfoldable pub certain : List (List Float) → Bool
 unfolding wide
-certain c = not (wide c) && definite (cholesky (check c) 3 (replicate 9 nought))
+certain c =
+    let check = entry c 0 0 ∷ entry c 0 1 ∷ entry c 0 2 ∷ entry c 1 0 ∷ entry c 1 1 ∷ entry c 1 2 ∷ entry c 2 0 ∷ entry c 2 1 ∷ entry c 2 2 ∷ [] in
+    not (wide c) && definite (cholesky check 3 (replicate 9 nought))
 
 -- what a fix shows: the mask and the degrees of freedom of the used receptions, the fit, its covariance, and the transmit time
 abbrev pub fixOf : ℕ → ℕ → Fit → List (List Float) → ℤ → Fix

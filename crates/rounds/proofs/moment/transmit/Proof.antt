@@ -1,15 +1,13 @@
 -- `moment::transmit` meets its contract. A whole number of binary64 within the tests is cast exactly; past them, as for an infinity, the sum leaves i64 whatever the reference. Assumes nothing.
 use borrow.Author.Needs.{needs}
-use mathlib.Core.Path.{_≡_, sym, subst}
+use mathlib.Core.Path.{_≡_, sym, subst, _∙_}
 use lib.Dec.{T}
 use lib.IntN.{pos, negℤ}
 use lib.Ieee.{ofBits, neg, toUnsigned}
 use mir.Syntax.{w64}
 use mir.Val.{toZ, ofZ}
 use mir.ValLaws.{toZ-ofZ}
-use Rattle.geo.proofs.Constants.{light}
-use Rattle.rounds.specs.Finish.{beyond, transmitPs}
-use Rattle.rounds.proofs.Certainty.{second}
+use Rattle.rounds.specs.Finish.{beyond}
 use Rattle.rounds.proofs.Moments.{cast-nan, cast-up, cast-high, turned, cast-down, cast-low, far-later, far-earlier, by-cast}
 use Rattle.rounds.proofs.moment.transmit.Statement.{statement}
 use Rattle.rounds.proofs.moment.transmit.Tie as tie
@@ -24,8 +22,7 @@ later-requires : tie.Need-later-requires
 later-requires c κs = search needs
 
 returns : tie.Need-returns
-unfolding transmitPs
-returns c = rw (light, second, ← c .before .before .round .ensures) (by-cast (c .before .before .before .args .reference) (pos 0) (c .before .before .round .result) (c .later .result) (cast-nan (c .before .before .round .result) (c .before .if1 .taken)) (rw (same ((c .before .before .before))) at (c .later .ensures)))
+returns c = by-cast (c .before .before .before .args .reference) (pos 0) (c .before .before .before .args .t) (c .before .before .round .result) (c .later .result) (c .before .before .round .ensures) (cast-nan (c .before .before .round .result) (c .before .if1 .taken)) (rw (same ((c .before .before .before))) at (c .later .ensures))
 
 truncating-f64-to-u64-requires : tie.Need-truncating-f64-to-u64-requires
 unfolding ofBits neg
@@ -35,20 +32,20 @@ later-requires-2 : tie.Need-later-requires-2
 later-requires-2 c κs = search needs
 
 returns-2 : tie.Need-returns-2
-unfolding transmitPs ofBits neg
+unfolding ofBits neg
 returns-2 c =
     let r = c .before .before .before .before .before .round .result in
-    rw (light, second, ← c .before .before .before .before .before .round .ensures) (by-cast (c .before .before .before .before .before .before .args .reference) (pos (toUnsigned 64 r)) r (c .later2 .result) (cast-up r (c .before .before .before .if2 .taken) (c .before .before .if3 .taken)) (rw (same ((c .before .before .before .before .before .before)), c .before .truncating-f64-to-u64 .ensures) at (c .later2 .ensures)))
+    by-cast (c .before .before .before .before .before .before .args .reference) (pos (toUnsigned 64 r)) (c .before .before .before .before .before .before .args .t) r (c .later2 .result) (c .before .before .before .before .before .round .ensures) (cast-up r (c .before .before .before .if2 .taken) (c .before .before .if3 .taken)) (rw (same ((c .before .before .before .before .before .before)), c .before .truncating-f64-to-u64 .ensures) at (c .later2 .ensures))
 
 beyond-requires : tie.Need-beyond-requires
 beyond-requires c κs = search needs
 
 returns-3 : tie.Need-returns-3
-unfolding transmitPs ofBits neg
+unfolding ofBits neg
 returns-3 c =
     let r = c .before .before .before .before .round .result in
     let far = cast-high r (c .before .before .if2 .taken) (c .before .if3 .left) in
-    rw (light, second, ← c .before .before .before .before .round .ensures, c .beyond .ensures) (by-cast (c .before .before .before .before .before .args .reference) (pos (far .0)) r beyond (far .1) (far-later (c .before .before .before .before .before .args .reference) (far .0) (c .before .before .before .before .before .fits .reference .sfits) (far .2)))
+    c .beyond .ensures ∙ by-cast (c .before .before .before .before .before .args .reference) (pos (far .0)) (c .before .before .before .before .before .args .t) r beyond (c .before .before .before .before .round .ensures) (far .1) (far-later (c .before .before .before .before .before .args .reference) (far .0) (c .before .before .before .before .before .fits .reference .sfits) (far .2))
 
 truncating-f64-to-u64-requires-2 : tie.Need-truncating-f64-to-u64-requires-2
 unfolding ofBits neg
@@ -58,20 +55,20 @@ earlier-requires : tie.Need-earlier-requires
 earlier-requires c κs = search needs
 
 returns-4 : tie.Need-returns-4
-unfolding transmitPs ofBits neg
+unfolding ofBits neg
 returns-4 c =
     let r = c .before .before .before .before .before .round .result in
-    rw (light, second, ← c .before .before .before .before .before .round .ensures) (by-cast (c .before .before .before .before .before .before .args .reference) (negℤ (pos (toUnsigned 64 (neg r)))) r (c .earlier .result) (cast-down r (c .before .before .before .before .if1 .left) (c .before .before .before .if2 .left) (c .before .before .if4 .taken)) (rw (same ((c .before .before .before .before .before .before)), c .before .truncating-f64-to-u642 .ensures) at (c .earlier .ensures)))
+    by-cast (c .before .before .before .before .before .before .args .reference) (negℤ (pos (toUnsigned 64 (neg r)))) (c .before .before .before .before .before .before .args .t) r (c .earlier .result) (c .before .before .before .before .before .round .ensures) (cast-down r (c .before .before .before .before .if1 .left) (c .before .before .before .if2 .left) (c .before .before .if4 .taken)) (rw (same ((c .before .before .before .before .before .before)), c .before .truncating-f64-to-u642 .ensures) at (c .earlier .ensures))
 
 beyond-requires-2 : tie.Need-beyond-requires-2
 beyond-requires-2 c κs = search needs
 
 returns-5 : tie.Need-returns-5
-unfolding transmitPs ofBits neg
+unfolding ofBits neg
 returns-5 c =
     let r = c .before .before .before .before .round .result in
     let far = cast-low r (c .before .before .before .if1 .left) (c .before .before .if2 .left) (c .before .if4 .left) in
-    rw (light, second, ← c .before .before .before .before .round .ensures, c .beyond2 .ensures) (by-cast (c .before .before .before .before .before .args .reference) (negℤ (pos (far .0))) r beyond (far .1) (far-earlier (c .before .before .before .before .before .args .reference) (far .0) (c .before .before .before .before .before .fits .reference .sfits) (far .2)))
+    c .beyond2 .ensures ∙ by-cast (c .before .before .before .before .before .args .reference) (negℤ (pos (far .0))) (c .before .before .before .before .before .args .t) r beyond (c .before .before .before .before .round .ensures) (far .1) (far-earlier (c .before .before .before .before .before .args .reference) (far .0) (c .before .before .before .before .before .fits .reference .sfits) (far .2))
 
 pub transmit-spec : {M : Type 1} → statement M
 transmit-spec =
