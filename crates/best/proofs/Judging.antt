@@ -29,7 +29,7 @@ pub record Held (sites : List Float) (k : ℕ) (fits : List Fit) (n top : ℕ) (
   pub set : S ≡ (λ i. weighed sites k (fitAt fits i))
   pub index : top ≡ indexOf (choose S (cheaper fits) n)
 
-module _ (sites : List Float) (k : ℕ) (fits : List Fit) (n top : ℕ) (S : Subset) (held : Held sites k fits n top S) where
+module _ {sites : List Float} {k : ℕ} {fits : List Fit} {n top : ℕ} {S : Subset} (held : Held sites k fits n top S) where
   abbrev answer : Outcome Unfit Fit
   answer = judged sites k fits (bestOf sites k fits)
 

@@ -1,7 +1,7 @@
 -- The claim of demand 3 holds of the computation's answer, and of no other. Assumes nothing.
 use mathlib.Core.Path.{_≡_, refl, sym, ap, _∙_}
 use mathlib.Core.Option.{Option, none}
-use Prim.Native.Nat.{ℕ, suc, _+_, _*_, _-_, _≤_}
+use Prim.Native.Nat.{ℕ, suc, _+_, _*_, _-_}
 use native.Mathlib.Omega.{arith}
 use Rattle.sets.specs.Sets.{Subset}
 use Rattle.best.specs.Best.{Outcome, fails, gives}

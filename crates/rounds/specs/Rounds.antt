@@ -48,6 +48,7 @@ pub data Step (F : Type 0) : Type 0 where
   changes : Subset → F → Step F
   settles : F → Step F
 
+-- by whether a residual is not a number, the worst, and the least: a removal comes before a return
 abbrev pub turned : {F : Type 0} → Subset → F → Bool → Option ℕ → Option ℕ → Step F
 turned S f true w l = ends Singular
 turned S f false (some i) l = changes (without S i) f

@@ -38,7 +38,7 @@ first-requires : tie.Need-first-requires Inv-loop μ-loop
 first-requires c κs = search needs
 
 loop-holds : tie.Need-loop-holds Inv-loop μ-loop
-loop-holds c = (omega arith, subst (λ (m : ℕ). m < 2 ^ c .before .before .args .n) (sym (c .first .ensures .0)) (c .before .before .pre .1), λ bad ref e l. left-start (heard ((c .before .before))) bad ref l (c .first .result) (c .before .before .args .kept) (c .before .count .result) (c .first .ensures .0) (c .first .ensures .1) e (c .before .before .pre .1) (c .before .count .ensures))
+loop-holds c = (omega arith, subst (λ (m : ℕ). m < 2 ^ c .before .before .args .n) (sym (c .first .ensures .0)) (c .before .before .pre .1), λ bad ref e l. left-start (heard (c .before .before)) bad ref l (c .first .result) (c .before .before .args .kept) (c .before .count .result) (c .first .ensures .0) (c .first .ensures .1) e (c .before .before .pre .1) (c .before .count .ensures))
 
 round-requires : tie.Need-round-requires Inv-loop μ-loop
 round-requires c κs = (c .before .before .before .before .pre .0, c .before .loop .inv .1)
@@ -51,7 +51,7 @@ refused-requires c κs = search needs
 
 returns : tie.Need-returns Inv-loop μ-loop
 returns c = λ bad e.
-    let s = (c .before .before .before .before .before .before .before .before .before .before) in
+    let s = c .before .before .before .before .before .before .before .before .before .before in
     let at = c .before .before .before .before .before .before .before .loop in
     let made = c .before .before .before .before .before .round in
     c .refused .ensures ∙ left-ends (heard s) bad (s .args .reference) (s .pre .0) (at .k) (2 * c .before .before .before .before .before .before .before .before .before .count .result + 2) (at .state) (made .result .turn) (made .result .fit) (made .ensures .0 bad (s .args .reference) e) (c .before .before .before .before .before .before .loop-test .taken) (at .inv .2 bad (s .args .reference) e (s .pre .0)) _ (c .before .before .turn .given .1)
@@ -70,7 +70,7 @@ loop-less c = search needs
 
 loop-again : tie.Need-loop-again Inv-loop μ-loop
 loop-again c =
-    let s = (c .before .before .before .before .before .before .before .before .before .before) in
+    let s = c .before .before .before .before .before .before .before .before .before .before in
     let at = c .before .before .before .before .before .before .before .loop in
     let made = c .before .before .before .before .before .round in
     let is = c .before .before .turn2 .given .1 in
@@ -91,7 +91,7 @@ of-finished-requires c κs = search needs
 
 returns-2 : tie.Need-returns-2 Inv-loop μ-loop
 returns-2 c = λ bad e.
-    let s = (c .before .before .before .before .before .before .before .before .before .before) in
+    let s = c .before .before .before .before .before .before .before .before .before .before in
     let at = c .before .before .before .before .before .before .before .loop in
     let made = c .before .before .before .before .before .round in
     c .of-finished .ensures ∙ ap closed (rw (toZ-ofZ w64 (s .args .reference) (s .fits .reference)) at (c .before .settled .ensures))
@@ -102,7 +102,7 @@ no-fixed-point-requires c κs = search needs
 
 returns-3 : tie.Need-returns-3 Inv-loop μ-loop
 returns-3 c = λ bad e.
-    let s = (c .before .before .before .before .before) in
+    let s = c .before .before .before .before .before in
     let at = c .before .before .loop in
     c .no-fixed-point .ensures ∙ left-never (heard s) bad (s .args .reference) (s .pre .0) (at .k) (2 * c .before .before .before .before .count .result + 2) (at .state) (c .before .loop-test .left) (at .inv .2 bad (s .args .reference) e (s .pre .0))
 

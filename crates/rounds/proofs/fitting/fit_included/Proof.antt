@@ -16,12 +16,12 @@ subset-requires c κs = search needs
 
 starts-requires : tie.Need-starts-requires
 starts-requires c κs =
-    let s = (c .before .before .before .before .before .before .before) in
+    let s = c .before .before .before .before .before .before .before in
     subset-fits (s .args .site .now) (s .args .z .now) (s .args .n) (has (s .args .state .included)) (c .before .before .before .before .before .subset .result) (c .before .before .before .before .before .subset .ensures) (s .pre) .0
 
 best-fit-requires : tie.Need-best-fit-requires
 best-fit-requires c κs =
-    let s = (c .before .before .before .before .before .before .before .before .before .before .before .before .before) in
+    let s = c .before .before .before .before .before .before .before .before .before .before .before .before .before in
     let S = has (s .args .state .included) in
     let g = c .before .before .before .before .before .before .before .before .before .before .before .subset in
     let fits = subset-fits (s .args .site .now) (s .args .z .now) (s .args .n) S (g .result) (g .ensures) (s .pre) in
@@ -29,7 +29,7 @@ best-fit-requires c κs =
 
 returns : tie.Need-returns
 returns c =
-    let s = (c .before .before .before .before .before .before .before .before .before .before .before .before .before .before) in
+    let s = c .before .before .before .before .before .before .before .before .before .before .before .before .before .before in
     let g = c .before .before .before .before .before .before .before .before .before .before .before .before .subset in
     c .best-fit .ensures ∙ fit-is (heard s) (has (s .args .state .included)) (s .args .state .had) (s .args .state .previous) (g .result) (g .ensures) (c .before .before .before .before .before .before .starts .result) (c .before .before .before .before .before .before .starts .ensures)
 

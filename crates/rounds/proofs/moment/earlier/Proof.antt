@@ -20,13 +20,13 @@ at-requires : tie.Need-at-requires
 at-requires c κs = search needs
 
 returns : tie.Need-returns
-returns c = rw (c .at .ensures, read-place (c .before .before .abs-diff .result - c .before .before .before .args .ps) (omega arith)) (earlier-held (c .before .before .before .args .reference) (c .before .before .abs-diff .result) (placed ((c .before .before))) (c .before .before .before .args .ps) (c .before .if1 .taken) (omega arith))
+returns c = rw (c .at .ensures, read-place (c .before .before .abs-diff .result - c .before .before .before .args .ps) (omega arith)) (earlier-held (c .before .before .before .args .reference) (c .before .before .abs-diff .result) (placed (c .before .before)) (c .before .before .before .args .ps) (c .before .if1 .taken) (omega arith))
 
 beyond-requires : tie.Need-beyond-requires
 beyond-requires c κs = search needs
 
 returns-2 : tie.Need-returns-2
-returns-2 c = rw (c .beyond .ensures) (earlier-beyond (c .before .before .before .args .reference) (c .before .before .abs-diff .result) (placed ((c .before .before))) (c .before .before .before .args .ps) (c .before .if1 .left))
+returns-2 c = rw (c .beyond .ensures) (earlier-beyond (c .before .before .before .args .reference) (c .before .before .abs-diff .result) (placed (c .before .before)) (c .before .before .before .args .ps) (c .before .if1 .left))
 
 pub earlier-spec : {M : Type 1} → statement M
 earlier-spec =

@@ -22,7 +22,7 @@ later-requires : tie.Need-later-requires
 later-requires c κs = search needs
 
 returns : tie.Need-returns
-returns c = by-cast (c .before .before .before .args .reference) (pos 0) (c .before .before .before .args .t) (c .before .before .round .result) (c .later .result) (c .before .before .round .ensures) (cast-nan (c .before .before .round .result) (c .before .if1 .taken)) (rw (same ((c .before .before .before))) at (c .later .ensures))
+returns c = by-cast (c .before .before .before .args .reference) (pos 0) (c .before .before .before .args .t) (c .before .before .round .result) (c .later .result) (c .before .before .round .ensures) (cast-nan (c .before .before .round .result) (c .before .if1 .taken)) (rw (same (c .before .before .before)) at (c .later .ensures))
 
 truncating-f64-to-u64-requires : tie.Need-truncating-f64-to-u64-requires
 unfolding ofBits neg
@@ -35,7 +35,7 @@ returns-2 : tie.Need-returns-2
 unfolding ofBits neg
 returns-2 c =
     let r = c .before .before .before .before .before .round .result in
-    by-cast (c .before .before .before .before .before .before .args .reference) (pos (toUnsigned 64 r)) (c .before .before .before .before .before .before .args .t) r (c .later2 .result) (c .before .before .before .before .before .round .ensures) (cast-up r (c .before .before .before .if2 .taken) (c .before .before .if3 .taken)) (rw (same ((c .before .before .before .before .before .before)), c .before .truncating-f64-to-u64 .ensures) at (c .later2 .ensures))
+    by-cast (c .before .before .before .before .before .before .args .reference) (pos (toUnsigned 64 r)) (c .before .before .before .before .before .before .args .t) r (c .later2 .result) (c .before .before .before .before .before .round .ensures) (cast-up r (c .before .before .before .if2 .taken) (c .before .before .if3 .taken)) (rw (same (c .before .before .before .before .before .before), c .before .truncating-f64-to-u64 .ensures) at (c .later2 .ensures))
 
 beyond-requires : tie.Need-beyond-requires
 beyond-requires c κs = search needs
@@ -58,7 +58,7 @@ returns-4 : tie.Need-returns-4
 unfolding ofBits neg
 returns-4 c =
     let r = c .before .before .before .before .before .round .result in
-    by-cast (c .before .before .before .before .before .before .args .reference) (negℤ (pos (toUnsigned 64 (neg r)))) (c .before .before .before .before .before .before .args .t) r (c .earlier .result) (c .before .before .before .before .before .round .ensures) (cast-down r (c .before .before .before .before .if1 .left) (c .before .before .before .if2 .left) (c .before .before .if4 .taken)) (rw (same ((c .before .before .before .before .before .before)), c .before .truncating-f64-to-u642 .ensures) at (c .earlier .ensures))
+    by-cast (c .before .before .before .before .before .before .args .reference) (negℤ (pos (toUnsigned 64 (neg r)))) (c .before .before .before .before .before .before .args .t) r (c .earlier .result) (c .before .before .before .before .before .round .ensures) (cast-down r (c .before .before .before .before .if1 .left) (c .before .before .before .if2 .left) (c .before .before .if4 .taken)) (rw (same (c .before .before .before .before .before .before), c .before .truncating-f64-to-u642 .ensures) at (c .earlier .ensures))
 
 beyond-requires-2 : tie.Need-beyond-requires-2
 beyond-requires-2 c κs = search needs

@@ -1,5 +1,4 @@
 -- `rounds::outliers::taken` meets its contract. By its two tests. Assumes nothing.
-use borrow.Author.Needs.{needs}
 use Rattle.rounds.proofs.outliers.taken.Statement.{statement}
 use Rattle.rounds.proofs.outliers.taken.Tie as tie
 

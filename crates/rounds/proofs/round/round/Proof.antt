@@ -1,6 +1,6 @@
 -- `rounds::round::round` meets its contract. Each test picks the definition's case (Turns.antt). Assumes nothing.
 use borrow.Author.Needs.{needs}
-use mathlib.Core.Path.{_≡_, sym, ap, _∙_}
+use mathlib.Core.Path.{_≡_, ap, _∙_}
 use Prim.Native.Nat.{ℕ}
 use native.Mathlib.Omega.{arith}
 use Rattle.best.specs.OfProblem.{Receptions, receptions}
@@ -31,7 +31,7 @@ ended-requires c κs = search needs
 
 returns : tie.Need-returns
 returns c =
-    let s = (c .before .before .before .before) in
+    let s = c .before .before .before .before in
     let n = c .before .before .before .count in (
       λ bad reference h. ap (λ (t : Turn). stepOf t (c .ended .result .fit)) (c .ended .ensures) ∙ round-few (heard s) bad reference (s .pre .0) (s .args .state .included) (s .pre .1) (before (s .args .state)) (n .result) (n .ensures) (rw (c .before .before .minimum .ensures) at (c .before .if1 .taken)),
       λ m q. absurd (no-change (c .ended .result .turn) _ (c .ended .ensures) m q),
@@ -48,7 +48,7 @@ decided-requires c κs = search needs
 
 returns-2 : tie.Need-returns-2
 returns-2 c =
-    let s = (c .before .before .before .before .before .before .before .before .before .before) in
+    let s = c .before .before .before .before .before .before .before .before .before .before in
     let n = c .before .before .before .before .before .before .before .before .before .count in
     let best = c .before .before .before .before .before .before .fit-included in (
       λ bad reference h. round-fitted (heard s) bad reference (s .pre .0) (s .args .state .included) (s .pre .1) (before (s .args .state)) (n .result) (n .ensures) (rw (c .before .before .before .before .before .before .before .before .minimum .ensures) at (c .before .before .before .before .before .before .before .if1 .left)) (best .result) (best .ensures) (c .before .before .before .before .before .if2 .taken) (s .args .kept) h (c .before .before .residuals .result) (c .before .before .residuals .ensures (s .args .altitude)) (c .decided .result) (c .decided .ensures .0 (best .result .fit)),
@@ -63,7 +63,7 @@ ended-requires-2 c κs = search needs
 
 returns-3 : tie.Need-returns-3
 returns-3 c =
-    let s = (c .before .before .before .before .before .before .before) in
+    let s = c .before .before .before .before .before .before .before in
     let n = c .before .before .before .before .before .before .count in
     let best = c .before .before .before .fit-included in (
       λ bad reference h. ap (λ (t : Turn). stepOf t (c .ended2 .result .fit)) (c .ended2 .ensures) ∙ ap ends (c .before .of-unfit .ensures) ∙ round-unfit (heard s) bad reference (s .pre .0) (s .args .state .included) (s .pre .1) (before (s .args .state)) (n .result) (n .ensures) (rw (c .before .before .before .before .before .minimum .ensures) at (c .before .before .before .before .if1 .left)) (best .result) (best .ensures) (c .before .before .if2 .left),
