@@ -1,3 +1,6 @@
--- The bits of the constants, and the turns of a run.
+-- The bits of the constants, the turns of a run, the order of floats, and sums of squares.
 pub mod Constants
 pub mod Turns
+pub mod Order
+pub mod Squares
+pub mod Limit

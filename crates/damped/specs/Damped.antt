@@ -74,13 +74,15 @@ rejected s =
       verdict = cond (lt (decimal 1_000_000_000_000 0) lambda) Stopped Rejected;
     }
 
+-- what a step x gives that is tried: the candidate is taken or not, by its cost
+abbrev pub tried : Chosen → Lm → List Float → List Float → Stepped
+tried P s x candidate = let next = evaluated P candidate in cond (better (next .cost) (s .cost)) (accepted (s .lambda) x candidate next) (rejected s)
+
 -- a turn of the loop over the chosen receptions P: where the damped Cholesky fails the step fails
 unfoldable pub step : Chosen → Lm → Stepped
 step P s =
     let v = descent (dampedTo (s .information) (s .lambda) 4) (s .gradient) in
-    let candidate = moved (s .params) (v .x) in
-    let next = evaluated P candidate in
-    cond (v .ok) (cond (better (next .cost) (s .cost)) (accepted (s .lambda) (v .x) candidate next) (rejected s)) (record { state = s; verdict = Failed })
+    cond (v .ok) (tried P s (v .x) (moved (s .params) (v .x))) (record { state = s; verdict = Failed })
 
 -- `Some(Fit { params, cost, information })`, and `None`
 abbrev pub fitted : Lm → Fit

@@ -3,7 +3,7 @@
 ghost use mathlib.Core.Path.{_≡_};
 ghost use Prim.Native.Nat.{_≤_};
 ghost use Rattle.whitening.specs.Whitened.{chosen};
-ghost use Rattle.damped.specs.Damped.{dampedTo, descent, moved, small, better, accepted, rejected, step, fitted, unfitted, plain, run, levenbergMarquardt};
+ghost use Rattle.damped.specs.Damped.{dampedTo, descent, moved, small, better, accepted, rejected, tried, step, fitted, unfitted, plain, run, levenbergMarquardt};
 use problem::Altitude;
 use whitening::Equations;
 
@@ -170,6 +170,39 @@ fn rejected(mut state: Lm) -> Stepped
     }
 }
 
+// What a step x to the parameters `candidate` gives. The altitude adds to what the receptions cost: where
+// they cost more than the state, its row is spared, and the slopes where all rows do.
+fn tried(
+    state: Lm,
+    x: [f64; 4],
+    candidate: [f64; 4],
+    sites: &[f64; 96],
+    z: &[f64; 32],
+    k: usize,
+    l: &[f64; 1024],
+    altitude: Altitude,
+) -> Stepped
+    requires { ⌜ k ≤ 32 ⌝ }
+    ensures { λ r. ⌜ r ≡ tried (chosen k (now (sites .entry)) (now (z .entry)) (now (l .entry)) altitude) state x candidate ⌝ }
+{
+    let cost = state.cost;
+    let mut r = [0.0; 33];
+    let mut ranges = [0.0; 32];
+    let part = whitening::residuals(sites, z, k, l, candidate, &mut r, &mut ranges);
+    if cost < part {
+        return rejected(state);
+    }
+    let place = whitening::place(altitude, candidate);
+    if better(
+        whitening::push_height(altitude, place, k, part, &mut r),
+        cost,
+    ) {
+        let next = whitening::completed(sites, k, l, altitude, candidate, place, &ranges, &r);
+        return accepted(state.lambda, x, candidate, next);
+    }
+    rejected(state)
+}
+
 impl Lm {
     // One damped step: a turn of the loop of `levenberg_marquardt`.
     pub fn step(
@@ -190,12 +223,7 @@ impl Lm {
         let found = descent(&m, gradient);
         if found.ok {
             let x = found.x;
-            let candidate = moved(params, x);
-            let next = whitening::evaluated(sites, z, k, l, altitude, candidate);
-            if better(next.cost, self.cost) {
-                return accepted(self.lambda, x, candidate, next);
-            }
-            return rejected(self);
+            return tried(self, x, moved(params, x), sites, z, k, l, altitude);
         }
         Stepped {
             state: self,

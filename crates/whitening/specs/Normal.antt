@@ -25,6 +25,11 @@ plusProducts m row = fourByFour (λ i j. at m 4 i j ⊕ nth row i ⊗ nth row j)
 unfoldable pub plusMultiple : List Float → List Float → Float → List Float
 plusMultiple v row value = four (λ i. nth v i ⊕ nth row i ⊗ value)
 
+-- `cost += r * r`, after i turns
+unfoldable pub costTo : List Float → ℕ → Float
+costTo r zero = nought
+costTo r (suc i) = costTo r i ⊕ nth r i ⊗ nth r i
+
 -- `for (r, row) in residuals.iter().zip(jacobian)`, after i turns
 unfoldable pub normalTo : Rows → ℕ → Equations
 unfolding plusProducts plusMultiple

@@ -8,6 +8,7 @@ use Rattle.dense.specs.Entries.{nth}
 use Rattle.dense.specs.Solve.{forward}
 use Rattle.linalg.specs.Vec3.{sub, norm}
 use Rattle.geo.specs.Geo.{fromEcef, enuBasis}
+use Rattle.geo.specs.declared.Geodetic.{Geodetic}
 use Rattle.problem.specs.Problem.{siteAt, position, moment}
 use Rattle.problem.specs.declared.Altitude.{Altitude}
 use Rattle.problem.specs.declared.Altitude.the-variants.{None, Barometric, Gnss}
@@ -35,20 +36,22 @@ pub record Rows : Type 0 where
 abbrev pub rows : ℕ → List Float → List Float → List Float → List Float → List Float → Rows
 rows count r a b c d = record { count = count; r = r; a = a; b = b; c = c; d = d }
 
+-- the range of reception i: `linalg::norm(delta)`, delta the place of p less the site
+abbrev pub rangeAt : List Float → List Float → ℕ → Float
+rangeAt sites p i = norm (sub (position p) (siteAt sites i))
+
 -- `residual`: z - T - |x - site|, from the left
 unfoldable pub residual : List Float → List Float → ℕ → List Float → Float
-residual sites z i p = nth z i ⊖ moment p ⊖ norm (sub (position p) (siteAt sites i))
+residual sites z i p = nth z i ⊖ moment p ⊖ rangeAt sites p i
 
--- the slope of a residual along an axis: `-delta[axis] / range`
-abbrev pub slope : List Float → ℕ → Float
-slope delta axis = neg (nth delta axis) ⊘ norm delta
+-- its slope along an axis: `-delta[axis] / range`
+abbrev pub slopeAt : List Float → List Float → ℕ → ℕ → Float
+slopeAt sites p axis i = neg (nth (sub (position p) (siteAt sites i)) axis) ⊘ rangeAt sites p i
 
 -- reception i before it is whitened: the residual and its four slopes
 unfoldable pub rawRow : List Float → List Float → ℕ → List Float → List Float
 unfolding residual
-rawRow sites z i p =
-    let delta = sub (position p) (siteAt sites i) in
-    residual sites z i p ∷ slope delta 0 ∷ slope delta 1 ∷ slope delta 2 ∷ neg one ∷ []
+rawRow sites z i p = residual sites z i p ∷ slopeAt sites p 0 i ∷ slopeAt sites p 1 i ∷ slopeAt sites p 2 i ∷ neg one ∷ []
 
 -- entry j of the row of reception i
 abbrev pub raw : List Float → List Float → List Float → ℕ → ℕ → Float
@@ -78,12 +81,15 @@ baroSigmaM = decimal 100 0
 unfoldable pub gnssSigmaM : Float
 gnssSigmaM = decimal 15 0
 
--- the altitude's row at x: `(position.height_m - metres) / sigma`, and its slopes, `up` over sigma and 0
-unfoldable pub heightRow : Float → Float → List Float → List Float
-heightRow metres sigma x =
-    let g = fromEcef x in
+-- the slopes of the altitude's row at a place: `up` over sigma, and 0
+unfoldable pub upRow : Float → Geodetic → List Float
+upRow sigma g =
     let up = getD (enuBasis (g .«lat_deg») (g .«lon_deg»)) 2 [] in
-    ((g .«height_m» ⊖ metres) ⊘ sigma) ∷ (nth up 0 ⊘ sigma) ∷ (nth up 1 ⊘ sigma) ∷ (nth up 2 ⊘ sigma) ∷ nought ∷ []
+    (nth up 0 ⊘ sigma) ∷ (nth up 1 ⊘ sigma) ∷ (nth up 2 ⊘ sigma) ∷ nought ∷ []
+
+-- the altitude's row: `(position.height_m - metres) / sigma`, and its slopes
+abbrev pub heightRow : Float → Float → Geodetic → List Float
+heightRow metres sigma g = ((g .«height_m» ⊖ metres) ⊘ sigma) ∷ upRow sigma g
 
 -- one row more, after the others
 abbrev pub push : Rows → List Float → Rows
@@ -92,12 +98,12 @@ push w row =
     rows (w .count + 1) (put (w .r) 0) (put (w .a) 1) (put (w .b) 2) (put (w .c) 3) (put (w .d) 4)
 
 -- "the altitude row last", where there is an altitude
-abbrev pub pushAltitude : Altitude → List Float → Rows → Rows
-pushAltitude None x w = w
-pushAltitude (Barometric metres) x w = push w (heightRow metres baroSigmaM x)
-pushAltitude (Gnss metres) x w = push w (heightRow metres gnssSigmaM x)
+abbrev pub pushAltitude : Altitude → Geodetic → Rows → Rows
+pushAltitude None g w = w
+pushAltitude (Barometric metres) g w = push w (heightRow metres baroSigmaM g)
+pushAltitude (Gnss metres) g w = push w (heightRow metres gnssSigmaM g)
 
 -- `whitened`
 unfoldable pub whitened : Chosen → List Float → Rows
-unfolding rawRow fillTo heightRow
-whitened P p = pushAltitude (P .altitude) (position p) (received P p)
+unfolding rawRow fillTo upRow
+whitened P p = pushAltitude (P .altitude) (fromEcef (position p)) (received P p)

@@ -5,8 +5,12 @@ mod rows;
 mod sums;
 mod timing;
 
+pub use rows::place;
+pub use rows::push_height;
 pub use rows::residual;
+pub use rows::residuals;
 pub use rows::whitened;
+pub use sums::completed;
 pub use sums::evaluated;
 pub use sums::normal;
 pub use sums::plus_multiple;

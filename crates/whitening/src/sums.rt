@@ -1,10 +1,19 @@
 // The normal equations of whitened rows.
 ghost use mathlib.Core.Path.{_≡_};
-ghost use Prim.Native.Nat.{_≤_};
-ghost use Rattle.whitening.specs.Whitened.{chosen, rows};
+ghost use mathlib.Core.List.{List};
+ghost use Prim.Native.Nat.{ℕ, _≤_, _<_};
+ghost use lib.Ieee.{Float};
+ghost use Rattle.dense.specs.Entries.{nth};
+ghost use Rattle.problem.specs.Problem.{position};
+ghost use Rattle.geo.specs.Geo.{fromEcef};
+ghost use Rattle.whitening.specs.Whitened.{Rows, rangeAt, pushAltitude, chosen, rows, whitened};
 ghost use Rattle.whitening.specs.Normal.{plusProducts, plusMultiple, normal, evaluated};
 use crate::Equations;
-use crate::rows::whitened;
+use crate::rows::place;
+use crate::rows::push_height;
+use crate::rows::residuals;
+use crate::rows::slopes;
+use geo::Geodetic;
 use problem::Altitude;
 
 // m and the products of each two entries of a row.
@@ -78,6 +87,43 @@ pub fn normal(
     }
 }
 
+// The normal equations of k receptions and the altitude at the parameters p, where their whitened
+// residuals, their ranges and the altitude's place are known.
+pub fn completed(
+    sites: &[f64; 96],
+    k: usize,
+    l: &[f64; 1024],
+    altitude: Altitude,
+    p: [f64; 4],
+    geodetic: Geodetic,
+    ranges: &[f64; 32],
+    r: &[f64; 33],
+) -> Equations
+    requires { ⌜ k ≤ 32 ⌝ }
+    requires { ⌜ ((i : ℕ) → i < k → nth (now ranges) i ≡ rangeAt (now sites) p i) ⌝ }
+    requires { ⌜ ((w : Rows) → pushAltitude altitude geodetic w ≡ pushAltitude altitude (fromEcef (position p)) w) ⌝ }
+    ensures { λ e. ⌜ ((z : List Float) → now (r .entry) ≡ whitened (chosen k (now (sites .entry)) z (now (l .entry)) altitude) p .r → e ≡ evaluated (chosen k (now (sites .entry)) z (now (l .entry)) altitude) p) ⌝ }
+{
+    let mut a = [0.0; 33];
+    let mut b = [0.0; 33];
+    let mut c = [0.0; 33];
+    let mut d = [0.0; 33];
+    let count = slopes(
+        sites,
+        k,
+        l,
+        altitude,
+        p,
+        geodetic,
+        ranges,
+        &mut a,
+        &mut b,
+        &mut c,
+        &mut d,
+    );
+    normal(r, &a, &b, &c, &d, count)
+}
+
 // The normal equations of k receptions and the altitude at the parameters p.
 pub fn evaluated(
     sites: &[f64; 96],
@@ -91,22 +137,9 @@ pub fn evaluated(
     ensures { λ e. ⌜ e ≡ evaluated (chosen k (now (sites .entry)) (now (z .entry)) (now (l .entry)) altitude) p ⌝ }
 {
     let mut r = [0.0; 33];
-    let mut a = [0.0; 33];
-    let mut b = [0.0; 33];
-    let mut c = [0.0; 33];
-    let mut d = [0.0; 33];
-    let count = whitened(
-        sites,
-        z,
-        k,
-        l,
-        altitude,
-        p,
-        &mut r,
-        &mut a,
-        &mut b,
-        &mut c,
-        &mut d,
-    );
-    normal(&r, &a, &b, &c, &d, count)
+    let mut ranges = [0.0; 32];
+    let part = residuals(sites, z, k, l, p, &mut r, &mut ranges);
+    let position = place(altitude, p);
+    let cost = push_height(altitude, position, k, part, &mut r);
+    completed(sites, k, l, altitude, p, position, &ranges, &r)
 }

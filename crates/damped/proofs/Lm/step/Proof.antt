@@ -1,4 +1,4 @@
--- `damped::Lm::step` meets its contract. Each call gives what the definition has in its place, and the two tests pick its case. Assumes nothing.
+-- `damped::Lm::step` meets its contract. Each call gives what the definition has in its place, and the test picks its case. Assumes nothing.
 use borrow.Author.Needs.{needs}
 use Rattle.damped.specs.Damped.{step}
 use Rattle.damped.proofs.Lm.step.Statement.{statement}
@@ -13,57 +13,16 @@ descent-requires c κs = search needs
 moved-requires : tie.Need-moved-requires
 moved-requires c κs = search needs
 
-evaluated-requires : tie.Need-evaluated-requires
-evaluated-requires c κs = search needs
-
-better-requires : tie.Need-better-requires
-better-requires c κs = search needs
-
-accepted-requires : tie.Need-accepted-requires
-accepted-requires c κs = search needs
+tried-requires : tie.Need-tried-requires
+tried-requires c κs = search needs
 
 returns : tie.Need-returns
 unfolding step
-returns c =
-    let judged = c .before in
-    let next = c .before .before .before in
-    let solved = c .before .before .before .before .before .before in
-    let found = c .before .before .before .before .before .before .before in
-    rw (
-      ← found .before .before .damped .ensures,
-      ← found .descent .ensures,
-      solved .if1 .taken,
-      ← next .before .moved .ensures,
-      ← next .evaluated .ensures,
-      ← judged .before .better .ensures,
-      judged .if2 .taken,
-      c .accepted .ensures,
-    )
-
-rejected-requires : tie.Need-rejected-requires
-rejected-requires c κs = search needs
+returns c = rw (← c .before .before .before .before .before .before .damped .ensures, ← c .before .before .before .before .descent .ensures, c .before .before .before .if1 .taken, ← c .before .moved .ensures, c .tried .ensures)
 
 returns-2 : tie.Need-returns-2
 unfolding step
-returns-2 c =
-    let judged = c .before in
-    let next = c .before .before .before in
-    let solved = c .before .before .before .before .before .before in
-    let found = c .before .before .before .before .before .before .before in
-    rw (
-      ← found .before .before .damped .ensures,
-      ← found .descent .ensures,
-      solved .if1 .taken,
-      ← next .before .moved .ensures,
-      ← next .evaluated .ensures,
-      ← judged .before .better .ensures,
-      judged .if2 .left,
-      c .rejected .ensures,
-    )
-
-returns-3 : tie.Need-returns-3
-unfolding step
-returns-3 c = rw (← c .before .before .before .damped .ensures, ← c .before .descent .ensures, c .if1 .left)
+returns-2 c = rw (← c .before .before .before .damped .ensures, ← c .before .descent .ensures, c .if1 .left)
 
 pub step-spec : {M : Type 1} → statement M
 step-spec =
@@ -72,10 +31,6 @@ step-spec =
     damped-requires
     descent-requires
     moved-requires
-    evaluated-requires
-    better-requires
-    accepted-requires
+    tried-requires
     returns
-    rejected-requires
-    returns-2
-    returns-3)
+    returns-2)

@@ -1,45 +1,37 @@
--- `whitening::rows::whitened` meets its contract. The receptions' rows are joined from the promises of `raw_rows` and `forward5` (`receptions`), and `push_altitude` adds the altitude's. Assumes nothing.
+-- `whitening::rows::whitened` meets its contract. The residuals and then the slopes, joined (`residuals-joined`). Assumes nothing.
 use borrow.Author.Needs.{needs}
 use denote.Ref.{now}
 use Rattle.whitening.specs.Whitened.{chosen}
-use Rattle.whitening.proofs.Joined.{receptions, complete}
+use Rattle.whitening.proofs.Joined.{residuals-joined}
 use Rattle.whitening.proofs.rows.whitened.Statement.{statement}
 use Rattle.whitening.proofs.rows.whitened.Tie as tie
 
-raw-rows-requires : tie.Need-raw-rows-requires
-raw-rows-requires c κs = search needs
+residuals-requires : tie.Need-residuals-requires
+residuals-requires c κs = search needs
 
-forward5-requires : tie.Need-forward5-requires
-forward5-requires c κs = search needs
+place-requires : tie.Need-place-requires
+place-requires c κs = search needs
 
-array-read-t28 : tie.Need-array-read-t28
-array-read-t28 c = search needs
+push-height-requires : tie.Need-push-height-requires
+push-height-requires c κs = search needs
 
-array-read-t31 : tie.Need-array-read-t31
-array-read-t31 c = search needs
-
-array-read-t34 : tie.Need-array-read-t34
-array-read-t34 c = search needs
-
-push-altitude-requires : tie.Need-push-altitude-requires
-push-altitude-requires c κs = search needs
+slopes-requires : tie.Need-slopes-requires
+slopes-requires c κs = let e = c .before .before .before .before .before .before .before .before .before .before .before .pre .1 in (c .before .before .before .before .before .before .before .before .before .before .before .pre .0, (c .before .before .before .before .before .before .before .before .residuals .ensures .1 .0, (c .before .before .before .before .before .before .before .place .ensures, (e .1, e .2, e .3, e .4))))
 
 returns : tie.Need-returns
 returns c =
-    let at = c .before .before .before .before .before .before .before .before .before .before .before .before .before .before .before .before .before .before .args in
+    let at = c .before .before .before .before .before .before .before .before .before .before .before .before .args in
     let P = chosen (at .k) (now (at .sites)) (now (at .z)) (now (at .l)) (at .altitude) in
-    let received = receptions P (at .t6) (c .before .before .before .before .before .before .before .before .before .before .before .before .before .before .before .before .before .before .pre .1) (c .before .before .before .before .before .before .before .before .before .before .before .before .raw-rows .ensures) (c .before .before .before .before .before .before .forward5 .ensures) in
-    let last = c .push-altitude .ensures in
-    (last .0, complete P (at .t6) _ _ received (last .1))
+    let joined = residuals-joined P (at .p) _ (c .before .before .before .before .before .before .before .before .place .ensures) (c .before .before .before .before .before .before .before .before .before .residuals .ensures .0 .1) (c .before .before .before .before .before .before .push-height .ensures .0) in
+    let last = c .slopes .ensures in
+    (last .0, rw joined (last .1 (now (at .z))))
 
 pub whitened-spec : {M : Type 1} → statement M
 whitened-spec =
     tie.close
     (tie.spec
-    raw-rows-requires
-    forward5-requires
-    array-read-t28
-    array-read-t31
-    array-read-t34
-    push-altitude-requires
+    residuals-requires
+    place-requires
+    push-height-requires
+    slopes-requires
     returns)

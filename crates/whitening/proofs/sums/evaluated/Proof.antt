@@ -1,23 +1,35 @@
--- `whitening::sums::evaluated` meets its contract. The promises of `whitened` and `normal`, put together. Assumes nothing.
+-- `whitening::sums::evaluated` meets its contract. The residuals first, and then the rest. Assumes nothing.
 use borrow.Author.Needs.{needs}
-use Rattle.whitening.specs.Normal.{evaluated}
+use denote.Ref.{now}
+use Rattle.whitening.specs.Whitened.{chosen}
+use Rattle.whitening.proofs.Joined.{residuals-joined}
 use Rattle.whitening.proofs.sums.evaluated.Statement.{statement}
 use Rattle.whitening.proofs.sums.evaluated.Tie as tie
 
-whitened-requires : tie.Need-whitened-requires
-whitened-requires c κs = search needs
+residuals-requires : tie.Need-residuals-requires
+residuals-requires c κs = search needs
 
-normal-requires : tie.Need-normal-requires
-normal-requires c κs = search needs
+place-requires : tie.Need-place-requires
+place-requires c κs = search needs
+
+push-height-requires : tie.Need-push-height-requires
+push-height-requires c κs = search needs
+
+completed-requires : tie.Need-completed-requires
+completed-requires c κs = search needs
 
 returns : tie.Need-returns
-unfolding evaluated
-returns c = rw (← c .before .before .before .before .before .before .whitened .ensures .1, c .normal .ensures)
+returns c =
+    let at = c .before .before .before .before .before .before .before .before .before .args in
+    let P = chosen (at .k) (now (at .sites)) (now (at .z)) (now (at .l)) (at .altitude) in
+    c .completed .ensures (now (at .z)) (residuals-joined P (at .p) _ (c .before .before .before .before .before .place .ensures) (c .before .before .before .before .before .before .residuals .ensures .0 .1) (c .before .before .before .push-height .ensures .0))
 
 pub evaluated-spec : {M : Type 1} → statement M
 evaluated-spec =
     tie.close
     (tie.spec
-    whitened-requires
-    normal-requires
+    residuals-requires
+    place-requires
+    push-height-requires
+    completed-requires
     returns)

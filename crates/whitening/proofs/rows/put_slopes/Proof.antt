@@ -1,17 +1,8 @@
--- `whitening::rows::put_row` meets its contract. Five stores. Assumes nothing.
+-- `whitening::rows::put_slopes` meets its contract. Four stores. Assumes nothing.
 use borrow.Author.Needs.{needs}
 use mathlib.Core.Path.{refl}
-use Rattle.whitening.proofs.rows.put_row.Statement.{statement}
-use Rattle.whitening.proofs.rows.put_row.Tie as tie
-
-array-read-r : tie.Need-array-read-r
-array-read-r c = search needs
-
-mul-r : tie.Need-mul-r
-mul-r c = search needs
-
-element-write-r : tie.Need-element-write-r
-element-write-r c = search needs
+use Rattle.whitening.proofs.rows.put_slopes.Statement.{statement}
+use Rattle.whitening.proofs.rows.put_slopes.Tie as tie
 
 array-read-a : tie.Need-array-read-a
 array-read-a c = search needs
@@ -50,15 +41,12 @@ element-write-d : tie.Need-element-write-d
 element-write-d c = search needs
 
 returns : tie.Need-returns
-returns c = (refl, (refl, (refl, (refl, refl))))
+returns c = (refl, (refl, (refl, refl)))
 
-pub put-row-spec : {M : Type 1} → statement M
-put-row-spec =
+pub put-slopes-spec : {M : Type 1} → statement M
+put-slopes-spec =
     tie.close
     (tie.spec
-    array-read-r
-    mul-r
-    element-write-r
     array-read-a
     mul-a
     element-write-a

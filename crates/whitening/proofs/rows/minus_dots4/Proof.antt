@@ -1,4 +1,4 @@
--- `whitening::rows::minus_dots5` meets its contract. The invariant: each sum has its first k products taken off. The measure is what is left of i. Assumes nothing.
+-- `whitening::rows::minus_dots4` meets its contract. The invariant: each sum has its first k products taken off. The measure is what is left of i. Assumes nothing.
 use borrow.Author.Needs.{needs}
 use mathlib.Core.Path.{_≡_, refl}
 use Prim.Native.Nat.{_≤_, _-_}
@@ -6,14 +6,14 @@ use native.Mathlib.Numerals.{add-one}
 use native.Mathlib.Omega.{arith}
 use Rattle.dense.specs.Entries.{nth, at, minusDots}
 use Rattle.dense.proofs.Places.{place, room}
-use Rattle.whitening.proofs.rows.minus_dots5.Statement.{statement}
-use Rattle.whitening.proofs.rows.minus_dots5.Tie as tie
+use Rattle.whitening.proofs.rows.minus_dots4.Statement.{statement}
+use Rattle.whitening.proofs.rows.minus_dots4.Tie as tie
 
 abbrev Inv-loop : tie.InvT-loop
-Inv-loop l n i r a b c d v0₀ v1₀ v2₀ v3₀ v4₀ start k₀ v0 v1 v2 v3 v4 k = (k ≤ i) × (v0 ≡ minusDots (at l n i) (nth r) k v0₀) × (v1 ≡ minusDots (at l n i) (nth a) k v1₀) × (v2 ≡ minusDots (at l n i) (nth b) k v2₀) × (v3 ≡ minusDots (at l n i) (nth c) k v3₀) × (v4 ≡ minusDots (at l n i) (nth d) k v4₀)
+Inv-loop l n i a b c d v0₀ v1₀ v2₀ v3₀ start k₀ v0 v1 v2 v3 k = (k ≤ i) × (v0 ≡ minusDots (at l n i) (nth a) k v0₀) × (v1 ≡ minusDots (at l n i) (nth b) k v1₀) × (v2 ≡ minusDots (at l n i) (nth c) k v2₀) × (v3 ≡ minusDots (at l n i) (nth d) k v3₀)
 
 abbrev μ-loop : tie.MeasureT-loop
-μ-loop l n i r a b c d v0₀ v1₀ v2₀ v3₀ v4₀ start k₀ v0 v1 v2 v3 v4 k = i - k
+μ-loop l n i a b c d v0₀ v1₀ v2₀ v3₀ start k₀ v0 v1 v2 v3 k = i - k
 
 array-read-v0 : tie.Need-array-read-v0 Inv-loop μ-loop
 array-read-v0 c = search needs
@@ -27,15 +27,12 @@ array-read-v2 c = search needs
 array-read-v3 : tie.Need-array-read-v3 Inv-loop μ-loop
 array-read-v3 c = search needs
 
-array-read-v4 : tie.Need-array-read-v4 Inv-loop μ-loop
-array-read-v4 c = search needs
-
 mul-start : tie.Need-mul-start Inv-loop μ-loop
 mul-start c = omega (arith, place (c .args .i) (c .args .i) (c .args .n) (omega arith) (omega arith), room (c .args .n) (omega arith))
 
 loop-holds : tie.Need-loop-holds Inv-loop μ-loop
 unfolding minusDots
-loop-holds c = (omega arith, refl, refl, refl, refl, refl)
+loop-holds c = (omega arith, refl, refl, refl, refl)
 
 add-e : tie.Need-add-e Inv-loop μ-loop
 add-e c = omega (arith, place (c .before .before .args .i) (c .before .loop .k) (c .before .before .args .n) (omega arith) (omega arith), room (c .before .before .args .n) (omega arith))
@@ -70,12 +67,6 @@ mul-v3 c = search needs
 element-copy-out-v3 : tie.Need-element-copy-out-v3 Inv-loop μ-loop
 element-copy-out-v3 c = search needs
 
-mul-v4 : tie.Need-mul-v4 Inv-loop μ-loop
-mul-v4 c = search needs
-
-element-copy-out-v4 : tie.Need-element-copy-out-v4 Inv-loop μ-loop
-element-copy-out-v4 c = search needs
-
 add-k : tie.Need-add-k Inv-loop μ-loop
 add-k c = search needs
 
@@ -85,17 +76,17 @@ loop-less c = search needs
 loop-again : tie.Need-loop-again Inv-loop μ-loop
 unfolding minusDots
 loop-again c =
-    let v = c .before .before .before .before .before .before .before .loop .inv in
-    (omega arith, rw (add-one, v .1), rw (add-one, v .2), rw (add-one, v .3), rw (add-one, v .4), rw (add-one, v .5))
+    let v = c .before .before .before .before .before .before .loop .inv in
+    (omega arith, rw (add-one, v .1), rw (add-one, v .2), rw (add-one, v .3), rw (add-one, v .4))
 
 returns : tie.Need-returns Inv-loop μ-loop
 returns c =
     let v = c .before .loop .inv in
     let all : c .before .loop .k ≡ c .before .before .args .i = omega arith in
-    (rw all at (v .1), (rw all at (v .2), (rw all at (v .3), (rw all at (v .4), rw all at (v .5)))))
+    (rw all at (v .1), (rw all at (v .2), (rw all at (v .3), rw all at (v .4))))
 
-pub minus-dots5-spec : {M : Type 1} → statement M
-minus-dots5-spec =
+pub minus-dots4-spec : {M : Type 1} → statement M
+minus-dots4-spec =
     tie.close
     (tie.spec
     Inv-loop
@@ -104,7 +95,6 @@ minus-dots5-spec =
     array-read-v1
     array-read-v2
     array-read-v3
-    array-read-v4
     mul-start
     loop-holds
     add-e
@@ -118,8 +108,6 @@ minus-dots5-spec =
     element-copy-out-v2
     mul-v3
     element-copy-out-v3
-    mul-v4
-    element-copy-out-v4
     add-k
     loop-less
     loop-again

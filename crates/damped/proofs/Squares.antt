@@ -1,0 +1,111 @@
+-- Sums of squares: no sign, and no less for a square more. Assumes nothing.
+use mathlib.Core.Path.{_≡_, refl, sym, ap, subst, _∙_}
+use mathlib.Core.Logic.{_⊎_, inl, inr}
+use mathlib.Core.Bool.{Bool, true, false, not, cond, false≢true}
+use mathlib.Core.List.{List}
+use Prim.Native.Nat.{ℕ, zero, suc, _+_, _*_, _^_, _≤_, _<_}
+use native.Mathlib.Nat.{le-trans, le-of-eq, le-add-right, mul-assoc, mul-right-comm, mul-le-mul-right, mul-pos}
+use lib.Dec.{T, ltb}
+use lib.Pow.{pow-pos}
+use lib.IntN.{ℤ}
+use lib.Ieee.{Float, Format, binary64, nan, inf, fin, up, down, round, units, odd, sum, add, mul, le, isNan, fits, ofBits, low, emax, prec}
+use lib.Ieee.Fits.{down-pos, round-fits, add-fits}
+use lib.Ieee.Bits.{ofBits-fits}
+use lib.Ieee.Exact.{HasValue, round-exact}
+use lib.Ieee.Order.{round-mono}
+use Rattle.binary64.specs.Steps.{_⊕_, _⊗_, isFinite}
+use Rattle.binary64.proofs.Held.{in-units, is-held, same-units}
+use Rattle.dense.specs.Entries.{nth}
+use Rattle.whitening.specs.Normal.{costTo}
+
+-- a number with its sign clear
+abbrev pub clear : Float → Bool
+clear nan = false
+clear (inf s) = not s
+clear (fin s m e) = not s
+
+odd-clear : (d q k l : ℕ) → T (clear (odd d false q k l))
+unfolding odd
+odd-clear d zero k l = tt
+odd-clear d (suc q) k l = tt
+
+units-clear : (f : Format) (q k : ℕ) → T (clear (units f false q k))
+unfolding units
+units-clear f q k = go (ltb (q * 2 ^ k) (2 ^ (low f + suc (emax f))))
+  where
+    go : (b : Bool) → T (clear (cond b (odd (suc (prec f)) false q k (low f)) (inf false)))
+    go true = odd-clear (suc (prec f)) q k (low f)
+    go false = tt
+
+round-clear : (f : Format) (num den : ℕ) → T (clear (round f false num den))
+unfolding round
+round-clear f num den = units-clear f _ _
+
+pub add-clear : (f : Format) (x y : Float) → T (clear x) → T (clear y) → T (clear (add f x y))
+unfolding add sum
+add-clear f (inf false) (inf false) h k = tt
+add-clear f (inf false) (fin false n d) h k = tt
+add-clear f (fin false m e) (inf false) h k = tt
+add-clear f (fin false m e) (fin false n d) h k = round-clear f _ _
+
+-- a square is clear, or that of no number
+pub square-clear : (f : Format) (x : Float) → T (clear (mul f x x)) ⊎ (x ≡ nan)
+unfolding mul
+square-clear f nan = inr refl
+square-clear f (inf true) = inl tt
+square-clear f (inf false) = inl tt
+square-clear f (fin true m e) = inl (round-clear f _ _)
+square-clear f (fin false m e) = inl (round-clear f _ _)
+
+none-square : mul binary64 nan nan ≡ nan
+unfolding mul
+none-square = refl
+
+add-none : (f : Format) (x : Float) → add f x nan ≡ nan
+unfolding add
+add-none f nan = refl
+add-none f (inf s) = refl
+add-none f (fin s m e) = refl
+
+none-add : (f : Format) (y : Float) → add f nan y ≡ nan
+unfolding add
+none-add f y = refl
+
+-- the square of no number gives no number
+pub more-none : (s x : Float) → x ≡ nan → s ⊕ x ⊗ x ≡ nan
+more-none s x e = ap (λ (y : Float). s ⊕ y ⊗ y) e ∙ ap (λ (y : Float). s ⊕ y) none-square ∙ add-none binary64 s
+
+pub cost-clear : (r : List Float) (i : ℕ) → T (clear (costTo r i)) ⊎ (costTo r i ≡ nan)
+unfolding costTo ofBits
+cost-clear r zero = inl tt
+cost-clear r (suc i) = go (costTo r i) (nth r i) (square-clear binary64 (nth r i)) (cost-clear r i)
+  where
+    go : (s x : Float) → T (clear (x ⊗ x)) ⊎ (x ≡ nan) → T (clear s) ⊎ (s ≡ nan) → T (clear (s ⊕ x ⊗ x)) ⊎ (s ⊕ x ⊗ x ≡ nan)
+    go s x (inl a) (inl b) = inl (add-clear binary64 s (x ⊗ x) b a)
+    go s x (inr e) b = inr (more-none s x e)
+    go s x (inl a) (inr e) = inr (ap (λ (y : Float). y ⊕ x ⊗ x) e ∙ none-add binary64 (x ⊗ x))
+
+pub cost-fits : (r : List Float) (i : ℕ) → T (fits binary64 (costTo r i))
+unfolding costTo
+cost-fits r zero = ofBits-fits binary64 0
+cost-fits r (suc i) = add-fits binary64 (costTo r i) (nth r i ⊗ nth r i)
+
+-- u / de, which is a / L, is no more than (u * dd + b) / (de * dd)
+no-less : (a u de dd L b : ℕ) → u * L ≡ a * de → a * (de * dd) ≤ (u * dd + b) * L
+no-less a u de dd L b e = le-trans (le-of-eq (sym (mul-assoc a de dd) ∙ ap (λ (x : ℕ). x * dd) (sym e) ∙ mul-right-comm u L dd)) (mul-le-mul-right L (le-add-right (u * dd) b))
+
+-- a sum is no less than what it adds to
+pub grows : (x y : Float) → T (fits binary64 x) → T (clear x) → T (clear y) → isFinite (add binary64 x y) ≡ true → T (le x (add binary64 x y))
+unfolding add sum isFinite
+grows (inf false) (inf false) t h k g = absurd (false≢true g)
+grows (inf false) (fin false n d) t h k g = absurd (false≢true g)
+grows (fin false m e) (inf false) t h k g = absurd (false≢true g)
+grows (fin false m e) (fin false n d) t h k g =
+    let j = in-units false m e t in
+    let a = m * 2 ^ j .0 in
+    let x = fin false m e in
+    let held = is-held x false a t (refl, j .1) in
+    let exact = round-exact binary64 false a (2 ^ 1074) (held .m) (held .j) (pow-pos 1074) (held .digits) (subst (λ (z : ℕ). z < 2 ^ 2098) (held .is) (held .below)) (ap (λ (z : ℕ). z * 2 ^ 1074) (held .is)) in
+    let same : x ≡ round binary64 false a (2 ^ 1074) = same-units x (round binary64 false a (2 ^ 1074)) a t (round-fits binary64 false a (2 ^ 1074)) (refl, j .1) exact in
+    subst (λ (v : Float). T (le v (round binary64 false (m * up e * down d + n * up d * down e) (down e * down d)))) (sym same)
+    (round-mono binary64 a (2 ^ 1074) (m * up e * down d + n * up d * down e) (down e * down d) (pow-pos 1074) (mul-pos (down-pos e) (down-pos d)) (no-less a (m * up e) (down e) (down d) (2 ^ 1074) (n * up d * down e) (j .1)))
