@@ -1,5 +1,5 @@
 // Writes arguments and fdlibm's results for sin, cos, atan2 and hypot: N of each, as records of
-// four big-endian 64-bit words (function number, x, y, result). Usage: java Fdlibm.java N [SEED]
+// four 64-bit words, little-endian (function number, x, y, result). Usage: java Fdlibm.java N [SEED]
 //
 // StrictMath is specified as fdlibm 5.3. Two things are added to it here:
 // - sin and cos of an angle beyond ±7 are not-a-number, as the port defines them;
@@ -98,10 +98,10 @@ public class Fdlibm {
     }
 
     void write(int which, double x, double y, double result) throws IOException {
-        out.writeLong(which);
-        out.writeLong(Double.doubleToRawLongBits(x));
-        out.writeLong(Double.doubleToRawLongBits(y));
-        out.writeLong(Double.doubleToRawLongBits(result));
+        out.writeLong(Long.reverseBytes(which));
+        out.writeLong(Long.reverseBytes(Double.doubleToRawLongBits(x)));
+        out.writeLong(Long.reverseBytes(Double.doubleToRawLongBits(y)));
+        out.writeLong(Long.reverseBytes(Double.doubleToRawLongBits(result)));
     }
 
     void trig() throws IOException {

@@ -12,14 +12,7 @@ enum { SIN, COS, ATAN2, HYPOT, SINCOS_SIN, SINCOS_COS, COUNT };
 static const char *const name[COUNT] = {"sin", "cos", "atan2", "hypot", "sincos, sin", "sincos, cos"};
 static uint64_t tried[COUNT], differ[COUNT];
 
-static double of_bits(uint64_t bits) { double x; memcpy(&x, &bits, 8); return x; }
 static uint64_t to_bits(double x) { uint64_t bits; memcpy(&bits, &x, 8); return x != x ? 0x7ff8000000000000u : bits; }
-
-static uint64_t word(const unsigned char *at) {
-    uint64_t value = 0;
-    for (int i = 0; i < 8; i++) value = value << 8 | at[i];
-    return value;
-}
 
 static void hold(int which, double a, double b, double wanted, double got) {
     tried[which]++;
@@ -29,10 +22,10 @@ static void hold(int which, double a, double b, double wanted, double got) {
 }
 
 int main(void) {
-    unsigned char record[32];
-    while (fread(record, sizeof record, 1, stdin) == 1) {
-        double a = of_bits(word(record + 8)), b = of_bits(word(record + 16)), wanted = of_bits(word(record + 24)), pair[2];
-        switch (word(record)) {
+    struct { uint64_t which; double a, b, wanted; } record; /* as its bytes have it, on x86-64 */
+    while (fread(&record, sizeof record, 1, stdin) == 1) {
+        double a = record.a, b = record.b, wanted = record.wanted, pair[2];
+        switch (record.which) {
         case SIN:
             mlat_sincos(a, pair);
             hold(SIN, a, b, wanted, mlat_sin(a));

@@ -1,0 +1,53 @@
+// Cases on standard input, one after the other: reading them, and counting those that differ. What the programs share that compare recorded cases.
+ghost use Prim.Native.Nat.{_+_, _<_, _≤_};
+ghost use mathlib.Core.Bool.{cond};
+ghost use mathlib.Core.Path.{_≡_};
+ghost use Rattle.io.specs.Counts.{Counts};
+use libc::STDIN_FILENO;
+use libc::STDOUT_FILENO;
+
+// A proved loop has to end, and nothing says that an input does: no file has this many cases.
+pub const MOST: u64 = 1000000;
+
+// How many cases were compared, and how many of them differ.
+pub struct Tally {
+    pub compared: u64,
+    pub differ: u64,
+}
+
+impl Tally {
+    // One case more, which agrees or differs. The second `ensures` follows from the first, and is there for the next call.
+    pub fn with(self, agrees: bool) -> Tally
+        requires { ⌜ (self .compared < 1000000) × (self .differ ≤ self .compared) ⌝ }
+        ensures { λ r. ⌜ (r .compared ≡ self .compared + 1) × (r .differ ≡ cond agrees (self .differ) (self .differ + 1)) ⌝ }
+        ensures { λ r. ⌜ r .differ ≤ r .compared ⌝ }
+    {
+        let compared = self.compared + 1;
+        let differ = self.differ;
+        if agrees {
+            return Tally { compared, differ };
+        }
+        Tally {
+            compared,
+            differ: differ + 1,
+        }
+    }
+}
+
+// Reads the next n bytes to the start of `bytes`, and says how many came: none where `bytes` has no room for n.
+pub fn read(bytes: &mut [u8], n: usize) -> usize
+    ensures { λ r. ⌜ Counts r (now (bytes .exit)) ⌝ }
+{
+    if n > bytes.len() {
+        return 0;
+    }
+    io::read_full(STDIN_FILENO, &mut bytes[..n])
+}
+
+// Prints the tally. No contract can say what is written.
+pub fn print(tally: Tally) {
+    io::print_decimal(STDOUT_FILENO, tally.compared);
+    io::write_all(STDOUT_FILENO, b" compared, ");
+    io::print_decimal(STDOUT_FILENO, tally.differ);
+    io::write_all(STDOUT_FILENO, b" differ\n");
+}
