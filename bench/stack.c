@@ -1,4 +1,4 @@
-/* The most stack that mlat_solve uses on the recorded problems of standard input (crates/replay/RECORDING.md has their layout): each is solved on a stack
+/* The most stack that mlat_solve uses on the recorded inputs of standard input (crates/replay/RECORDING.md has their layout): each is solved on a stack
    that was painted before, and what is not paint afterwards was used. A thread that does nothing shows its own share. */
 #define _GNU_SOURCE
 #include <pthread.h>
@@ -38,13 +38,13 @@ static size_t used(uint8_t *stack) {
 int main(void) {
     uint8_t *stack = aligned_alloc(4096, STACK);
     uint8_t *end = recording + fread(recording, 1, sizeof recording, stdin);
-    size_t most = 0, problems = 0;
-    for (at = recording; at < end; problems++) {
+    size_t most = 0, inputs = 0;
+    for (at = recording; at < end; inputs++) {
         size_t now = used(stack);
         if (most < now) most = now;
     }
     stop = 1;
     size_t bare = used(stack);
-    printf("%zu problems: at most %zu bytes of stack, %zu of them the thread's own\n", problems, most, bare);
+    printf("%zu inputs: at most %zu bytes of stack, %zu of them the thread's own\n", inputs, most, bare);
     return 0;
 }

@@ -1,4 +1,4 @@
-//! Kept problems with their answers, one after the other. Each is eight bytes, then the bytes of the four files, then the record. The eight: the length of receptions.bin,
+//! Recorded inputs with their records, one after the other. Each is eight bytes, then the bytes of the four files, then the record. The eight: the length of receptions.bin,
 //! u16; of clock.bin, u16; of altitude.bin, u8; of reference.bin, u8; which are there, u8 (bit 0 clock, 1 altitude, 2 reference, 3 receptions); and 0. Little-endian.
 
 use crate::record::LENGTH;

@@ -194,7 +194,11 @@ fn main() {
     let mut tally = Tally::default();
     for at in 0..problems {
         tally.problem(at, seed);
+        if (at + 1) % problems.div_ceil(50) == 0 {
+            eprint!("\r{:>3}% of {problems}, {} differences ", (at + 1) * 100 / problems, tally.differences);
+        }
     }
+    eprintln!();
     tally.report();
     if tally.differences > 0 {
         std::process::exit(1);

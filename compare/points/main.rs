@@ -171,7 +171,11 @@ fn main() {
     let mut tally = Tally { sizes: vec![0; 33], ..Tally::default() };
     for turn in 0..problems {
         tally.turn(&mut random, turn as usize);
+        if (turn + 1) % problems.div_ceil(50) == 0 {
+            eprint!("\r{:>3}% of {problems}, {} differences ", (turn + 1) * 100 / problems, tally.differences);
+        }
     }
+    eprintln!();
     tally.report();
     if tally.differences > 0 {
         std::process::exit(1);

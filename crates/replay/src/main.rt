@@ -1,4 +1,4 @@
-// Replays recorded problems of the original: standard input holds them one after the other, in the form that RECORDING.md beside this program states. Prints how many were
+// Replays recorded inputs of the original: standard input holds them one after the other, in the form that RECORDING.md beside this program states. Prints how many were
 // compared and how many differ, in the answer or in any of the 176 bytes.
 use cases::Tally;
 
@@ -32,7 +32,7 @@ fn solved_alike(
     is_answer(answer, recorded[0]) && check::same(&out, recorded)
 }
 
-// Whether the next problem's answer and record are the recorded ones. Its first eight bytes are read already.
+// Whether the next input's answer and record are the recorded ones. Its first eight bytes are read already.
 fn agrees(head: &[u8; 8]) -> bool {
     let mut receptions = [0u8; 8192];
     let mut clock = [0u8; 16384];
@@ -54,7 +54,7 @@ fn agrees(head: &[u8; 8]) -> bool {
         )
 }
 
-// The next problem's first eight bytes, and whether there are any.
+// The next input's first eight bytes, and whether there are any.
 fn next(head: &mut [u8; 8]) -> bool {
     cases::read(head, 8) == 8
 }

@@ -1,0 +1,107 @@
+# What the scripts of compare/, bench/ and oracle/ share. Sourced by each as its first step:
+#     . "$(dirname "$0")/../tools/common.sh"
+# POSIX sh. It sets root, the folder of the repository.
+root=$(cd "$(dirname "$0")/.." && pwd)
+mkdir -p "$root/target/log"
+
+# Prints the script's first comment and ends.
+usage() {
+    sed -n -e '2s/^# /usage: /p' -e '3,/^[^#]/s/^# //p' "$0" >&2
+    exit 2
+}
+
+# need COMMAND..: the commands, and the kit's, are on the PATH.
+need() {
+    for command in rt "$@"; do
+        if ! command -v "$command" >/dev/null 2>&1; then
+            echo "$0: $command is not on the PATH" >&2
+            exit 2
+        fi
+    done
+}
+
+# numbers WORD..: whole numbers, or the usage.
+numbers() {
+    for word in "$@"; do
+        case $word in '' | *[!0-9]*) usage ;; esac
+    done
+}
+
+# original SRC FILE..: sets src, the folder SRC of the original Rust, where the files have to be.
+original() {
+    folder=$1
+    shift
+    for file in "$@"; do
+        if [ ! -f "$folder/$file" ]; then
+            echo "$0: there is no $folder/$file: SRC is the folder of the original Rust, with $* in it" >&2
+            exit 2
+        fi
+    done
+    src=$(cd "$folder" && pwd)
+}
+
+# taken FIRST [LAST]: the lines of solve.rs from the one that begins with FIRST to the next that is LAST, or that one line alone; there is one such.
+taken() {
+    awk -v by="$0" -v first="$1" -v last="${2-}" '
+        index($0, first) == 1 { found++; inside = 1 }
+        inside { print }
+        inside && (last == "" || $0 == last) { inside = 0; whole++ }
+        END { if (found != 1 || whole != 1) { print by ": solve.rs has " found + 0 " times: " first >"/dev/stderr"; exit 1 } }
+    ' "$src/solve.rs"
+}
+
+# library NAME [FOLDER]: proves the crate NAME of the repository in FOLDER (this one) and builds it as a static library, unless none of its files is newer.
+library() {
+    folder=${2:-$root}
+    archive=$folder/target/staticlib/lib$1.a
+    if [ -f "$archive" ] && [ -z "$(find "$folder/crates" "$folder/crates.txt" -type f -newer "$archive")" ]; then
+        return
+    fi
+    echo "$0: proving and building $1; from nothing it takes some minutes" >&2
+    if ! (cd "$folder" && rt staticlib "$1") >"$root/target/log/staticlib.$1" 2>&1; then
+        cat "$root/target/log/staticlib.$1" >&2
+        exit 1
+    fi
+}
+
+# c_names FOLDER FILES NAME DEP..: inner functions under C names, as a static library. It is the crate NAME, whose files are those below FILES/NAME with .txt at
+# their ends, in a repository in FOLDER beside copies of the crates that it uses. What is proved here of those is not proved again.
+c_names() {
+    to=$1 files=$2 name=$3
+    shift 3
+    echo "$0: proving what $name uses; from nothing it takes some minutes" >&2
+    (cd "$root" && rt check "$@") >"$root/target/log/check.$name" 2>&1 || { cat "$root/target/log/check.$name" >&2; exit 1; }
+    rm -rf "$to/crates" "$to/target/stamp" "$to/target/rlib"
+    mkdir -p "$to/crates" "$to/target/stamp" "$to/target/rlib"
+    for crate in $(uses "$@"); do
+        cp -R "$root/crates/$crate" "$to/crates/"
+        rm -rf "$to/crates/$crate/must-fail"
+        cp "$root/target/stamp/$crate" "$to/target/stamp/"
+        cp -R "$root/target/rlib/$crate.rlib" "$to/target/rlib/"
+        grep "^$crate:" "$root/crates.txt"
+    done >"$to/crates.txt"
+    (cd "$files" && find "$name" -name '*.txt') | while read -r file; do
+        mkdir -p "$to/crates/$(dirname "$file")"
+        cp "$files/$file" "$to/crates/${file%.txt}"
+    done
+    printf '%s: %s\n' "$name" "$*" >>"$to/crates.txt"
+    library "$name" "$to"
+}
+
+# uses CRATE..: these crates and all that they depend on, by crates.txt.
+uses() {
+    awk -v wanted="$*" '
+        { sub(/#.*/, "") }
+        match($0, /:/) { deps[substr($0, 1, RSTART - 1)] = substr($0, RSTART + 1) }
+        END {
+            n = split(wanted, todo, " ")
+            for (i = 1; i <= n; i++) {
+                if (!(todo[i] in deps) || todo[i] in seen) continue
+                seen[todo[i]] = 1
+                print todo[i]
+                m = split(deps[todo[i]], more, " ")
+                for (k = 1; k <= m; k++) todo[++n] = more[k]
+            }
+        }
+    ' "$root/crates.txt"
+}
