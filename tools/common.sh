@@ -52,9 +52,10 @@ taken() {
 
 # library NAME [FOLDER]: proves the crate NAME of the repository in FOLDER (this one) and builds it as a static library, unless none of its files is newer.
 library() {
-    folder=${2:-$root}
+    folder=$(cd "${2:-$root}" && pwd)
     archive=$folder/target/staticlib/lib$1.a
-    if [ -f "$archive" ] && [ -z "$(find "$folder/crates" "$folder/crates.txt" -type f -newer "$archive")" ]; then
+    # shellcheck disable=SC2046
+    if [ -f "$archive" ] && [ -z "$(cd "$folder/crates" && find ../crates.txt $(uses "$1") -type f -newer "$archive")" ]; then
         return
     fi
     echo "$0: proving and building $1; from nothing it takes some minutes" >&2
@@ -73,7 +74,7 @@ c_names() {
     (cd "$root" && rt check "$@") >"$root/target/log/check.$name" 2>&1 || { cat "$root/target/log/check.$name" >&2; exit 1; }
     rm -rf "$to/crates" "$to/target/stamp" "$to/target/rlib"
     mkdir -p "$to/crates" "$to/target/stamp" "$to/target/rlib"
-    for crate in $(uses "$@"); do
+    for crate in $(cd "$root/crates" && uses "$@"); do
         cp -R "$root/crates/$crate" "$to/crates/"
         rm -rf "$to/crates/$crate/must-fail"
         cp "$root/target/stamp/$crate" "$to/target/stamp/"
@@ -88,7 +89,7 @@ c_names() {
     library "$name" "$to"
 }
 
-# uses CRATE..: these crates and all that they depend on, by crates.txt.
+# uses CRATE..: these crates and all that they depend on, by the crates.txt of the folder above.
 uses() {
     awk -v wanted="$*" '
         { sub(/#.*/, "") }
@@ -103,5 +104,5 @@ uses() {
                 for (k = 1; k <= m; k++) todo[++n] = more[k]
             }
         }
-    ' "$root/crates.txt"
+    ' ../crates.txt
 }
