@@ -27,13 +27,13 @@ numbers() {
     done
 }
 
-# original SRC FILE..: sets src, the folder SRC of the original Rust, where the files have to be.
+# original SRC FILE..: sets src, the folder SRC of the original, where the files have to be.
 original() {
     folder=$1
     shift
     for file in "$@"; do
         if [ ! -f "$folder/$file" ]; then
-            echo "$0: there is no $folder/$file: SRC is the folder of the original Rust, with $* in it" >&2
+            echo "$0: there is no $folder/$file: SRC is the folder of the original, with $* in it" >&2
             exit 2
         fi
     done
