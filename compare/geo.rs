@@ -1,7 +1,10 @@
 //! The port's geo beside geo.rs: equal bits on N arguments for each function, all not-a-numbers counted as one value, and the times of both.
 //! Built and run by compare/geo.
 
+mod random;
+
 use original::geo::{self, Geodetic};
+use random::Random;
 use std::time::Instant;
 
 extern "C" {
@@ -168,24 +171,6 @@ static WHOLE_EDGES: [u64; 16] = {
     }
     edges
 };
-
-/// xorshift64 from a fixed seed: every run has the same arguments.
-struct Random(u64);
-
-impl Random {
-    fn next(&mut self) -> u64 {
-        self.0 ^= self.0 << 13;
-        self.0 ^= self.0 >> 7;
-        self.0 ^= self.0 << 17;
-        self.0
-    }
-    fn within(&mut self, low: f64, high: f64) -> f64 {
-        low + (high - low) * ((self.next() >> 11) as f64 / (1u64 << 53) as f64)
-    }
-    fn any_size(&mut self) -> f64 {
-        f64::from_bits(self.next() % 0x7ff0_0000_0000_0000 | self.next() & 1 << 63)
-    }
-}
 
 fn any(random: &mut Random) -> [u64; 3] {
     [random.next(), random.next(), random.next()]

@@ -1,5 +1,9 @@
 //! The port's five beside Rust's own f64 functions: how many binary64 lie between their results, at most 2. Built and run by compare/libm.
 
+mod random;
+
+use random::Random;
+
 /// One function on both sides, over two numbers.
 struct Pair {
     name: &'static str,
@@ -16,25 +20,6 @@ const PAIRS: [Pair; 6] = [
     Pair { name: "atan2", made: point, ours: libm::atan2, theirs: f64::atan2 },
     Pair { name: "hypot", made: point, ours: libm::hypot, theirs: f64::hypot },
 ];
-
-/// xorshift64 from a fixed seed: every run has the same arguments.
-struct Random(u64);
-
-impl Random {
-    fn next(&mut self) -> u64 {
-        self.0 ^= self.0 << 13;
-        self.0 ^= self.0 >> 7;
-        self.0 ^= self.0 << 17;
-        self.0
-    }
-    fn within(&mut self, low: f64, high: f64) -> f64 {
-        low + (high - low) * ((self.next() >> 11) as f64 / (1u64 << 53) as f64)
-    }
-    /// A finite number, every one as likely.
-    fn any_size(&mut self) -> f64 {
-        f64::from_bits(self.next() % 0x7ff0_0000_0000_0000 | self.next() & 1 << 63)
-    }
-}
 
 const SPECIAL: [f64; 12] = [0.0, -0.0, 5e-324, -5e-324, 1.0, -1.0, 7.0, -7.0, f64::MAX, f64::INFINITY, f64::NEG_INFINITY, f64::NAN];
 

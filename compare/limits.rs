@@ -1,9 +1,12 @@
 //! The port's chi-square limits and covariances beside those of solve.rs: equal bits on N arguments for each function, all not-a-numbers counted as
 //! one value; the one difference that is listed; and the times of both. Built and run by compare/limits.
 
+mod random;
+
 use original::geo::Geodetic;
 use original::linalg::Matrix;
 use original::solve;
+use random::Random;
 use std::time::Instant;
 
 extern "C" {
@@ -119,19 +122,7 @@ const PAIRS: [Pair; 6] = [
     },
 ];
 
-/// xorshift64 from a fixed seed: every run has the same arguments.
-struct Random(u64);
-
 impl Random {
-    fn next(&mut self) -> u64 {
-        self.0 ^= self.0 << 13;
-        self.0 ^= self.0 >> 7;
-        self.0 ^= self.0 << 17;
-        self.0
-    }
-    fn within(&mut self, low: f64, high: f64) -> f64 {
-        low + (high - low) * ((self.next() >> 11) as f64 / (1u64 << 53) as f64)
-    }
     fn edge(&mut self) -> f64 {
         let edge = EDGES[(self.next() >> 8) as usize % EDGES.len()];
         if self.next() >> 63 == 0 { edge } else { -edge }

@@ -3,8 +3,10 @@
 mod original {
     include!(env!("ORIGINAL"));
 }
+mod random;
 
 use original::{Item, ModelTime, Problem};
+use random::Random;
 use std::time::Instant;
 
 extern "C" {
@@ -28,20 +30,11 @@ const KINDS: [&str; 8] = [
     "at one site, gaps at the limit",
 ];
 
-/// xorshift64 from a fixed seed: every run has the same sets.
-struct Random(u64);
-
 impl Random {
-    fn next(&mut self) -> u64 {
-        self.0 ^= self.0 << 13;
-        self.0 ^= self.0 >> 7;
-        self.0 ^= self.0 << 17;
-        self.0
-    }
     fn below(&mut self, n: u64) -> u64 {
         (self.next() >> 11) % n
     }
-    fn within(&mut self, low: i64, high: i64) -> i64 {
+    fn between(&mut self, low: i64, high: i64) -> i64 {
         low + self.below((high - low) as u64 + 1) as i64
     }
     fn sign(&mut self) -> i64 {
@@ -93,28 +86,28 @@ fn floor_root(value: i128) -> i128 {
 /// `from` moved by `by`, up or down, whichever stays within the ends, or any place there.
 fn moved(random: &mut Random, from: i64, by: i64, low: i64, high: i64) -> i64 {
     let sign = random.sign();
-    [from + sign * by, from - sign * by].into_iter().find(|to| (low..=high).contains(to)).unwrap_or_else(|| random.within(low, high))
+    [from + sign * by, from - sign * by].into_iter().find(|to| (low..=high).contains(to)).unwrap_or_else(|| random.between(low, high))
 }
 
 fn near(random: &mut Random) -> [i64; 3] {
     let place = [3_900_000_000, 500_000_000, 5_000_000_000];
-    place.map(|c: i64| c + random.within(-300_000_000, 300_000_000))
+    place.map(|c: i64| c + random.between(-300_000_000, 300_000_000))
 }
 
 fn sound(random: &mut Random, set: &mut Set) {
     let source = near(random);
-    let start = random.within(1_000_000_000_000, 9_000_000_000_000);
+    let start = random.between(1_000_000_000_000, 9_000_000_000_000);
     for i in 0..set.n {
         let site = near(random);
         set.put(i, site);
         let away: f64 = (0..3).map(|a| ((site[a] - source[a]) as f64).powi(2)).sum::<f64>().sqrt();
-        set.times[i] = start + (away / 0.299_792_458) as i64 + random.within(-100_000, 100_000);
+        set.times[i] = start + (away / 0.299_792_458) as i64 + random.between(-100_000, 100_000);
     }
 }
 
 /// Reception i at the limit of its pair with an earlier one, or 1 ps to either side.
 fn at_limit(random: &mut Random, set: &mut Set, i: usize, j: usize) {
-    let by = set.limit(i, j) + random.within(-1, 1);
+    let by = set.limit(i, j) + random.between(-1, 1);
     set.times[i] = moved(random, set.times[j], by, 0, LAST_TIME);
 }
 
@@ -126,7 +119,7 @@ fn made(random: &mut Random, kind: usize) -> Set {
             sound(random, &mut set);
             for i in 0..set.n {
                 if random.below(4) == 0 {
-                    set.times[i] += random.sign() * random.within(1_000_000, 10_000_000_000);
+                    set.times[i] += random.sign() * random.between(1_000_000, 10_000_000_000);
                 }
             }
         }
@@ -134,18 +127,18 @@ fn made(random: &mut Random, kind: usize) -> Set {
             sound(random, &mut set);
             let clusters = 2 + random.below(4) as i64;
             for i in 0..set.n {
-                set.times[i] = 5_000_000_000_000 + random.within(0, clusters - 1) * 20_000_000_000 + random.within(0, 3_000_000_000);
+                set.times[i] = 5_000_000_000_000 + random.between(0, clusters - 1) * 20_000_000_000 + random.between(0, 3_000_000_000);
             }
         }
         5 => {
-            set.times.iter_mut().for_each(|t| *t = random.within(0, LAST_TIME));
-            set.sites.iter_mut().for_each(|c| *c = random.within(-FAR, FAR));
+            set.times.iter_mut().for_each(|t| *t = random.between(0, LAST_TIME));
+            set.sites.iter_mut().for_each(|c| *c = random.between(-FAR, FAR));
         }
         _ => {
             for i in 0..set.n {
                 let anchor = near(random);
                 set.put(i, anchor);
-                set.times[i] = random.within(0, LAST_TIME);
+                set.times[i] = random.between(0, LAST_TIME);
                 if i == 0 {
                     continue;
                 }
@@ -154,21 +147,21 @@ fn made(random: &mut Random, kind: usize) -> Set {
                     2 => at_limit(random, &mut set, i, j),
                     3 => {
                         // 299,792,458 and 10^9 share a 2: these are the gaps of equality
-                        let k = random.within(1, 66);
+                        let k = random.between(1, 66);
                         let mut site = set.site(j);
                         let axis = random.below(3) as usize;
                         site[axis] = moved(random, site[axis], 149_896_229 * k - 1_000_000, -FAR, FAR);
                         set.put(i, site);
-                        let by = 500_000_000 * k + random.within(-1, 1);
+                        let by = 500_000_000 * k + random.between(-1, 1);
                         set.times[i] = moved(random, set.times[j], by, 0, LAST_TIME);
                     }
                     4 => {
                         let high = 1 << (1 + random.below(16));
-                        let (p, q) = (random.within(0, high), random.within(0, high));
+                        let (p, q) = (random.between(0, high), random.between(0, high));
                         let near_square = match random.below(3) {
                             0 if (p + q) % 2 == 0 => [(p * p + q * q) / 2, p, q], // b² - 1, of b = (p² + q²) / 2 + 1
                             1 if (p + q) % 2 == 1 => [(p * p + q * q - 1) / 2, p, q], // b², of b = (p² + q² + 1) / 2
-                            _ => [random.within(0, FAR), 1, 0],                   // b² + 1
+                            _ => [random.between(0, FAR), 1, 0],                   // b² + 1
                         };
                         let turn = random.below(3) as usize;
                         let from = set.site(j);

@@ -50,17 +50,16 @@ taken() {
     ' "$src/solve.rs"
 }
 
-# library NAME [FOLDER]: proves the crate NAME of the repository in FOLDER (this one) and builds it as a static library, unless none of its files is newer.
+# The functions below are called in the folder of the repository.
+
+# library NAME [FOLDER]: proves the crate NAME of the repository in FOLDER (this one) and builds it as a static library, where that is older than its files.
 library() {
-    folder=$(cd "${2:-$root}" && pwd)
-    archive=$folder/target/staticlib/lib$1.a
+    folder=${2:-.}
     # shellcheck disable=SC2046
-    if [ -f "$archive" ] && [ -z "$(cd "$folder/crates" && find ../crates.txt $(uses "$1") -type f -newer "$archive")" ]; then
-        return
-    fi
+    stale "$folder/target/staticlib/lib$1.a" "$folder/crates.txt" $(uses "$folder" "$1") || return 0
     echo "$0: proving and building $1; from nothing it takes some minutes" >&2
-    if ! (cd "$folder" && rt staticlib "$1") >"$root/target/log/staticlib.$1" 2>&1; then
-        cat "$root/target/log/staticlib.$1" >&2
+    if ! (cd "$folder" && rt staticlib "$1") >"target/log/staticlib.$1" 2>&1; then
+        cat "target/log/staticlib.$1" >&2
         exit 1
     fi
 }
@@ -70,39 +69,52 @@ library() {
 c_names() {
     to=$1 files=$2 name=$3
     shift 3
+    # shellcheck disable=SC2046
+    stale "$to/target/staticlib/lib$name.a" crates.txt "$files/$name" $(uses . "$@") || return 0
     echo "$0: proving what $name uses; from nothing it takes some minutes" >&2
-    (cd "$root" && rt check "$@") >"$root/target/log/check.$name" 2>&1 || { cat "$root/target/log/check.$name" >&2; exit 1; }
-    rm -rf "$to/crates" "$to/target/stamp" "$to/target/rlib"
+    if ! rt check "$@" >"target/log/check.$name" 2>&1; then
+        cat "target/log/check.$name" >&2
+        exit 1
+    fi
+    rm -rf "$to/crates" "$to/target"
     mkdir -p "$to/crates" "$to/target/stamp" "$to/target/rlib"
-    for crate in $(cd "$root/crates" && uses "$@"); do
-        cp -R "$root/crates/$crate" "$to/crates/"
+    for path in $(uses . "$@"); do
+        crate=${path##*/}
+        cp -R "$path" "$to/crates/"
         rm -rf "$to/crates/$crate/must-fail"
-        cp "$root/target/stamp/$crate" "$to/target/stamp/"
-        cp -R "$root/target/rlib/$crate.rlib" "$to/target/rlib/"
-        grep "^$crate:" "$root/crates.txt"
+        cp "target/stamp/$crate" "$to/target/stamp/"
+        cp -R "target/rlib/$crate.rlib" "$to/target/rlib/"
+        grep "^$crate:" crates.txt
     done >"$to/crates.txt"
     (cd "$files" && find "$name" -name '*.txt') | while read -r file; do
         mkdir -p "$to/crates/$(dirname "$file")"
         cp "$files/$file" "$to/crates/${file%.txt}"
     done
-    printf '%s: %s\n' "$name" "$*" >>"$to/crates.txt"
+    echo "$name: $*" >>"$to/crates.txt"
     library "$name" "$to"
 }
 
-# uses CRATE..: these crates and all that they depend on, by the crates.txt of the folder above.
+# stale ARCHIVE PATH..: whether it is not there, or a file below a path is newer.
+stale() {
+    archive=$1
+    shift
+    [ ! -f "$archive" ] || [ -n "$(find "$@" -type f -newer "$archive")" ]
+}
+
+# uses FOLDER CRATE..: the folders of these crates and of all that they depend on, by FOLDER's crates.txt.
 uses() {
-    awk -v wanted="$*" '
+    awk -v folder="$1" -v wanted="$*" '
         { sub(/#.*/, "") }
         match($0, /:/) { deps[substr($0, 1, RSTART - 1)] = substr($0, RSTART + 1) }
         END {
             n = split(wanted, todo, " ")
-            for (i = 1; i <= n; i++) {
+            for (i = 2; i <= n; i++) {
                 if (!(todo[i] in deps) || todo[i] in seen) continue
                 seen[todo[i]] = 1
-                print todo[i]
+                print folder "/crates/" todo[i]
                 m = split(deps[todo[i]], more, " ")
                 for (k = 1; k <= m; k++) todo[++n] = more[k]
             }
         }
-    ' ../crates.txt
+    ' "$1/crates.txt"
 }
