@@ -4,7 +4,6 @@ ghost use mathlib.Core.Bool.{cond};
 ghost use mathlib.Core.Path.{_≡_};
 ghost use Rattle.io.specs.Counts.{Counts};
 use libc::STDIN_FILENO;
-use libc::STDOUT_FILENO;
 
 // A proved loop has to end, and nothing says that an input does: no file has this many cases.
 pub const MOST: u64 = 1000000;
@@ -42,12 +41,4 @@ pub fn read(bytes: &mut [u8], n: usize) -> usize
         return 0;
     }
     io::read_full(STDIN_FILENO, &mut bytes[..n])
-}
-
-// Prints the tally. No contract can say what is written.
-pub fn print(tally: Tally) {
-    io::print_decimal(STDOUT_FILENO, tally.compared);
-    io::write_all(STDOUT_FILENO, b" compared, ");
-    io::print_decimal(STDOUT_FILENO, tally.differ);
-    io::write_all(STDOUT_FILENO, b" differ\n");
 }
