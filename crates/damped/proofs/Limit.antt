@@ -15,8 +15,9 @@ use Rattle.dense.specs.Entries.{nth}
 use Rattle.geo.specs.declared.Geodetic.{Geodetic}
 use Rattle.problem.specs.declared.Altitude.{Altitude}
 use Rattle.problem.specs.declared.Altitude.the-variants.{None, Barometric, Gnss}
-use Rattle.whitening.specs.Whitened.{Chosen, Rows, rows, blank, raw, received, pushAltitude, whitenedColumn, whitened}
+use Rattle.whitening.specs.Whitened.{Chosen, Rows, rows, blank, raw, pushAltitude, whitenedColumn, whitened}
 use Rattle.whitening.specs.Normal.{costTo, evaluated}
+use Rattle.whitening.proofs.Joined.{received}
 use Rattle.whitening.proofs.Costs.{cost-is, cost-more, room-left}
 use Rattle.whitening.specs.declared.Equations.{Equations}
 use Rattle.damped.specs.declared.Lm.{Lm}

@@ -223,7 +223,8 @@ impl Lm {
         let found = descent(&m, gradient);
         if found.ok {
             let x = found.x;
-            return tried(self, x, moved(params, x), sites, z, k, l, altitude);
+            let candidate = moved(params, x);
+            return tried(self, x, candidate, sites, z, k, l, altitude);
         }
         Stepped {
             state: self,

@@ -46,6 +46,4 @@ roundingNorm a b c d rows = root (dots (movedAt a b c d) (movedAt a b c d) rows)
 
 -- `published_chi2_limit`
 unfoldable pub publishedChi2Limit : ℕ → Float → Float
-publishedChi2Limit n rounding =
-    let reach = root (chi2Limit n) ⊕ rounding in
-    reach ⊗ reach
+publishedChi2Limit n rounding = let reach = root (chi2Limit n) ⊕ rounding in reach ⊗ reach

@@ -79,5 +79,4 @@ factored (found l) ones alpha centroid = crossed (pseudo l ones) (pseudo l alpha
 
 -- `bancroft` of k receptions. Its n is k, and so is that of `starts` where `bancroft` is called, with four or more: the centroid is the same.
 unfoldable pub bancroft : List Float → List Float → ℕ → List Float → List (List Float)
-bancroft sites z k centroid =
-    factored (cholesky (productsTo sites z centroid k) 4 (replicate 16 nought)) (rhsTo sites z centroid false k) (rhsTo sites z centroid true k) centroid
+bancroft sites z k centroid = factored (cholesky (productsTo sites z centroid k) 4 (replicate 16 nought)) (rhsTo sites z centroid false k) (rhsTo sites z centroid true k) centroid

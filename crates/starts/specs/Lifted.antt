@@ -55,8 +55,7 @@ bearing step = tau ⊗ ofInt binary64 (pos step) ⊘ ofInt binary64 (pos 8)
 
 -- `linalg::add(centroid, offset)`, where the basis is east, north and up
 unfoldable pub ringPlace : List Float → List (List Float) → Float → ℕ → List Float
-ringPlace centroid basis radius step =
-    add centroid (add (scale (getD basis 0 []) (radius ⊗ sin (bearing step))) (scale (getD basis 1 []) (radius ⊗ cos (bearing step))))
+ringPlace centroid basis radius step = add centroid (add (scale (getD basis 0 []) (radius ⊗ sin (bearing step))) (scale (getD basis 1 []) (radius ⊗ cos (bearing step))))
 
 module _ (sites z : List Float) (k : ℕ) (height : Float) (centroid : List Float) (basis : List (List Float)) where
   -- the starts at this radius, after `step` bearings

@@ -12,7 +12,7 @@ use Rattle.geo.specs.declared.Geodetic.{Geodetic}
 use Rattle.problem.specs.Problem.{position}
 use Rattle.problem.specs.declared.Altitude.{Altitude}
 use Rattle.problem.specs.declared.Altitude.the-variants.{None, Barometric, Gnss}
-use Rattle.whitening.specs.Whitened.{Chosen, Rows, rows, blank, raw, rawRow, slopeAt, fillTo, received, baroSigmaM, gnssSigmaM, upRow, pushAltitude, whitenedColumn, whitened}
+use Rattle.whitening.specs.Whitened.{Chosen, Rows, rows, blank, raw, rawRow, slopeAt, fillTo, baroSigmaM, gnssSigmaM, upRow, pushAltitude, whitenedColumn, whitened}
 use Rattle.whitening.specs.declared.Equations.{Equations}
 use Rattle.whitening.specs.Normal.{costTo, normal, evaluated}
 use Rattle.whitening.proofs.Costs.{cost-is}
@@ -51,6 +51,10 @@ module _ (altitude : Altitude) (metres : Float) (g : Geodetic) (k : ℕ) (row a 
 
   pub gnss-up : altitude ≡ Gnss metres → row ≡ upRow (# 0x402E000000000000) g → Up
   gnss-up e h = λ r. rw (e, p .0, p .1 .0, p .1 .1 .0, p .1 .1 .1, h, gnss-bits)
+
+-- the rows of the receptions
+abbrev pub received : Chosen → List Float → Rows
+received P p = let column = whitenedColumn P p in rows (P .k) (column 0) (column 1) (column 2) (column 3) (column 4)
 
 -- neither the residuals nor how many rows there are turn on the slopes
 push-r : (altitude : Altitude) (g : Geodetic) (k : ℕ) (r a b c d : List Float) → pushAltitude altitude g (rows k r a b c d) .r ≡ pushAltitude altitude g (rows k r [] [] [] []) .r

@@ -1,5 +1,5 @@
 -- The normal equations of whitened rows: `normal` of solve.rs. Definitions only.
-use mathlib.Core.List.{List, [], _∷_}
+use mathlib.Core.List.{List, [], _∷_, _++_}
 use Prim.Native.Nat.{ℕ, zero, suc}
 use lib.ListN.{replicate}
 use lib.Ieee.{Float}
@@ -11,11 +11,7 @@ use Rattle.whitening.specs.Whitened.{Chosen, Rows, whitened}
 
 -- a 4 x 4 matrix by its entries, row by row
 abbrev pub fourByFour : (ℕ → ℕ → Float) → List Float
-fourByFour f =
-    f 0 0 ∷ f 0 1 ∷ f 0 2 ∷ f 0 3 ∷
-    f 1 0 ∷ f 1 1 ∷ f 1 2 ∷ f 1 3 ∷
-    f 2 0 ∷ f 2 1 ∷ f 2 2 ∷ f 2 3 ∷
-    f 3 0 ∷ f 3 1 ∷ f 3 2 ∷ f 3 3 ∷ []
+fourByFour f = four (f 0) ++ four (f 1) ++ four (f 2) ++ four (f 3)
 
 -- `information.add(i, j, row[i] * row[j])` for each i and j
 unfoldable pub plusProducts : List Float → List Float → List Float

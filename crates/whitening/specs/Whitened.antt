@@ -70,10 +70,6 @@ blank = replicate 33 nought
 abbrev pub whitenedColumn : Chosen → List Float → ℕ → List Float
 whitenedColumn P p j = forward (P .whitener) (P .k) (fillTo (raw (P .sites) (P .z) p j) blank (P .k))
 
--- the rows of the receptions
-abbrev pub received : Chosen → List Float → Rows
-received P p = let column = whitenedColumn P p in rows (P .k) (column 0) (column 1) (column 2) (column 3) (column 4)
-
 -- `BARO_SIGMA_M` and `GNSS_SIGMA_M`: "one standard deviation", metres, of an altitude of either kind
 unfoldable pub baroSigmaM : Float
 baroSigmaM = decimal 100 0
@@ -93,9 +89,7 @@ heightRow metres sigma g = ((g .«height_m» ⊖ metres) ⊘ sigma) ∷ upRow si
 
 -- one row more, after the others
 abbrev pub push : Rows → List Float → Rows
-push w row =
-    let put : List Float → ℕ → List Float = λ y j. set y (w .count) (nth row j) in
-    rows (w .count + 1) (put (w .r) 0) (put (w .a) 1) (put (w .b) 2) (put (w .c) 3) (put (w .d) 4)
+push w row = let put : List Float → ℕ → List Float = λ y j. set y (w .count) (nth row j) in rows (w .count + 1) (put (w .r) 0) (put (w .a) 1) (put (w .b) 2) (put (w .c) 3) (put (w .d) 4)
 
 -- "the altitude row last", where there is an altitude
 abbrev pub pushAltitude : Altitude → Geodetic → Rows → Rows
@@ -103,7 +97,7 @@ pushAltitude None g w = w
 pushAltitude (Barometric metres) g w = push w (heightRow metres baroSigmaM g)
 pushAltitude (Gnss metres) g w = push w (heightRow metres gnssSigmaM g)
 
--- `whitened`
+-- `whitened`: the rows of the receptions, and the altitude's
 unfoldable pub whitened : Chosen → List Float → Rows
 unfolding rawRow fillTo upRow
-whitened P p = pushAltitude (P .altitude) (fromEcef (position p)) (received P p)
+whitened P p = let column = whitenedColumn P p in pushAltitude (P .altitude) (fromEcef (position p)) (rows (P .k) (column 0) (column 1) (column 2) (column 3) (column 4))
