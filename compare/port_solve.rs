@@ -61,7 +61,8 @@ pub fn solve(files: &Files, spare: &[u8], more: u32, out: &mut [u8]) -> u32 {
     }
 }
 
-/// The same of the receptions as a list of structs, where the file holds whole ones.
+/// The same of the receptions as a list of structs, where the file holds whole ones. Only compare/solve calls it.
+#[allow(dead_code)]
 #[cfg(not(itself))]
 pub fn solve_receptions(files: &Files, spare: &[u8], more: u32, out: &mut [u8]) -> Option<u32> {
     let bytes = files.receptions.as_deref().unwrap_or(&[]);
@@ -83,6 +84,7 @@ pub fn solve(files: &Files, _: &[u8], _: u32, out: &mut [u8]) -> u32 {
     oracle::record::solve(files, out)
 }
 
+#[allow(dead_code)]
 #[cfg(itself)]
 pub fn solve_receptions(_: &Files, _: &[u8], _: u32, _: &mut [u8]) -> Option<u32> {
     None
