@@ -1,5 +1,6 @@
 //! The times of the port's solve and the original's, by class of problem. Built and run by bench/solve.
 
+#[allow(dead_code)]
 #[path = "../compare/port_solve.rs"]
 mod port_solve;
 
