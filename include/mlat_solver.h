@@ -56,19 +56,18 @@ double mlat_horizontal_sigma_m(const double position[3], const double covariance
 uint32_t mlat_solve(const uint8_t *receptions, size_t receptions_len, const uint8_t *clock, size_t clock_len, const uint8_t *altitude,
                     size_t altitude_len, const uint8_t *reference, size_t reference_len, uint32_t present, uint8_t *out, size_t out_len);
 
-/* A reception: its 64 bytes of receptions.bin on a little-endian machine, 8 for each number, with no padding. The filler stands for the eight zero
-   bytes: one that is not 0 is a bad field, as in the file. */
+/* A reception of a caller's own list. It has the 64 bytes of receptions.bin on a little-endian machine, eight for each number, with no padding. */
 struct mlat_reception {
-    uint64_t id;
-    int64_t time;       /* ps */
-    int64_t site_mm[3]; /* ECEF */
-    double z;           /* metres of light after the reference */
-    double noise_m2;
-    uint64_t filler;    /* 0 */
+    uint64_t id;        /* above that of the reception before */
+    int64_t time;       /* ps, 0 to 10^13 */
+    int64_t site_mm[3]; /* ECEF, each within 10^10 either way */
+    double z;           /* metres of light after the reference, 0 to 3*10^9 */
+    double noise_m2;    /* 10^-6 to 10^12 */
+    uint64_t filler;    /* zero: any other value is refused, as in the file */
 };
 
-/* The same solve of the caller's own list of receptions, receptions_len of them, in place of receptions.bin: its promise is mlat_solve's, over
-   the list. A list is never torn; of over 32 receptions (10) none is read. */
+/* The same solve with a list of receptions_len structs in place of the bytes of receptions: answer and bytes are what the same definition gives for
+   the list, and demand 3 holds of them likewise. A list is never torn; of one over 32 nothing is read. */
 uint32_t mlat_solve_receptions(const struct mlat_reception *receptions, size_t receptions_len, const uint8_t *clock, size_t clock_len,
                                const uint8_t *altitude, size_t altitude_len, const uint8_t *reference, size_t reference_len, uint32_t present,
                                uint8_t *out, size_t out_len);

@@ -12,8 +12,8 @@
 //! }
 //! ```
 //!
-//! The solve keeps no state and allocates nothing: any number of calls may run side by side. What it answers is proved, for every input; this crate only carries
-//! numbers to bytes and back.
+//! The solve keeps no state and allocates nothing: any number of calls may run side by side. What it answers is proved, for every input; this crate lends it the
+//! receptions and carries the other numbers to bytes and back.
 
 mod fix;
 mod refusal;
@@ -24,8 +24,9 @@ pub use refusal::{Field, Refusal};
 /// The length of a record.
 pub const RECORD: usize = 176;
 
-/// One reception of the transmission.
-#[derive(Clone, Copy, Debug, PartialEq)]
+/// One reception of the transmission. A slice of them is lent to the solve as it stands.
+#[derive(Clone, Copy, Debug, Default, PartialEq)]
+#[repr(C)]
 pub struct Reception {
     /// Above that of the reception before.
     pub identity: u64,
@@ -37,6 +38,8 @@ pub struct Reception {
     pub z_m: f64,
     /// Variance of its own timing, 10^-6 to 10^12.
     pub noise_m2: f64,
+    /// Zero, as in the file: any other value is refused.
+    pub filler: u64,
 }
 
 /// A reported altitude, metres above the ellipsoid, within ±100,000.
@@ -63,13 +66,17 @@ extern "C" {
         receptions: *const u8, receptions_len: usize, clock: *const u8, clock_len: usize, altitude: *const u8, altitude_len: usize,
         reference: *const u8, reference_len: usize, present: u32, out: *mut u8, out_len: usize,
     ) -> u32;
+    #[rustfmt::skip]
+    fn mlat_solve_receptions(
+        receptions: *const Reception, receptions_len: usize, clock: *const u8, clock_len: usize, altitude: *const u8, altitude_len: usize,
+        reference: *const u8, reference_len: usize, present: u32, out: *mut u8, out_len: usize,
+    ) -> u32;
 }
 
 /// The solve on the bytes of the four files, absent ones none; an absent receptions file is an empty one. Returns the answer number and writes the record to the
 /// first 176 bytes of `out`, where it is that long; else the answer is 14 and nothing is written.
 pub fn solve_bytes(receptions: &[u8], clock: Option<&[u8]>, altitude: Option<&[u8]>, reference: Option<&[u8]>, out: &mut [u8]) -> u32 {
-    let present = u32::from(clock.is_some()) | u32::from(altitude.is_some()) << 1 | u32::from(reference.is_some()) << 2;
-    let [clock, altitude, reference] = [clock, altitude, reference].map(|file| file.unwrap_or(&[]));
+    let (present, [clock, altitude, reference]) = lent([clock, altitude, reference]);
     // SAFETY: each pointer is lent with its length, the output is apart from the inputs, and the call keeps none of them.
     unsafe {
         mlat_solve(
@@ -79,13 +86,30 @@ pub fn solve_bytes(receptions: &[u8], clock: Option<&[u8]>, altitude: Option<&[u
     }
 }
 
+/// The same with a list of receptions in place of their file.
+pub fn solve_receptions(receptions: &[Reception], clock: Option<&[u8]>, altitude: Option<&[u8]>, reference: Option<&[u8]>, out: &mut [u8]) -> u32 {
+    let (present, [clock, altitude, reference]) = lent([clock, altitude, reference]);
+    // SAFETY: as above, and `Reception` is laid out as include/mlat_solver.h has it.
+    unsafe {
+        mlat_solve_receptions(
+            receptions.as_ptr(), receptions.len(), clock.as_ptr(), clock.len(), altitude.as_ptr(), altitude.len(),
+            reference.as_ptr(), reference.len(), present, out.as_mut_ptr(), out.len(),
+        )
+    }
+}
+
+/// Which of three inputs there are, a bit each, and their bytes.
+fn lent(files: [Option<&[u8]>; 3]) -> (u32, [&[u8]; 3]) {
+    let [clock, altitude, reference] = files.map(|file| u32::from(file.is_some()));
+    (clock | altitude << 1 | reference << 2, files.map(|file| file.unwrap_or(&[])))
+}
+
 /// Where the aircraft was, or why that is not said.
 pub fn solve(problem: &Problem) -> Result<Fix, Refusal> {
-    let receptions: Vec<u8> = problem.receptions.iter().flat_map(reception_bytes).collect();
     let clock: Option<Vec<u8>> = problem.clock_m2.map(|entries| entries.iter().flat_map(|entry| entry.to_le_bytes()).collect());
     let altitude = problem.altitude.map(altitude_bytes);
     let mut record = [0; RECORD];
-    solve_bytes(&receptions, clock.as_deref(), altitude.as_ref().map(<[u8; 16]>::as_slice), Some(&problem.reference_ps.to_le_bytes()), &mut record);
+    solve_receptions(problem.receptions, clock.as_deref(), altitude.as_ref().map(<[u8; 16]>::as_slice), Some(&problem.reference_ps.to_le_bytes()), &mut record);
     read(&record)
 }
 
@@ -96,15 +120,6 @@ pub fn read(record: &[u8; RECORD]) -> Result<Fix, Refusal> {
         0 => Ok(fix::read(record)),
         number => Err(refusal::read(number, word(4))),
     }
-}
-
-fn reception_bytes(r: &Reception) -> [u8; 64] {
-    let mut bytes = [0; 64];
-    let words = [r.identity, r.time_ps as u64, r.site_mm[0] as u64, r.site_mm[1] as u64, r.site_mm[2] as u64, r.z_m.to_bits(), r.noise_m2.to_bits()];
-    for (part, word) in bytes.chunks_mut(8).zip(words) {
-        part.copy_from_slice(&word.to_le_bytes());
-    }
-    bytes
 }
 
 fn altitude_bytes(altitude: Altitude) -> [u8; 16] {

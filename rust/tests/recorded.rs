@@ -1,6 +1,7 @@
-//! The recorded answers of the original: through the bytes, and through `Problem` where there is one.
+//! The recorded answers of the original: through the bytes, through a list of receptions, and through `Problem` where there is one.
 
-use jifrosk::{Altitude, Problem, RECORD, Reception, read, solve, solve_bytes};
+use jifrosk::{Altitude, Problem, RECORD, Reception, read, solve, solve_bytes, solve_receptions};
+use std::mem::{align_of, offset_of, size_of};
 
 const KEPT: &str = concat!(env!("CARGO_MANIFEST_DIR"), "/../crates/replay/stdin");
 
@@ -46,27 +47,57 @@ fn bytes_give_the_recorded_record() {
     }
 }
 
+fn long(bytes: &[u8], at: usize) -> u64 {
+    u64::from_le_bytes(bytes[at..at + 8].try_into().expect("eight bytes"))
+}
+
+/// The receptions of a file, unless it is torn.
+fn list(file: &[u8]) -> Option<Vec<Reception>> {
+    let reception = |r: &[u8]| Reception {
+        identity: long(r, 0),
+        time_ps: long(r, 8) as i64,
+        site_mm: [16, 24, 32].map(|at| long(r, at) as i64),
+        z_m: f64::from_bits(long(r, 40)),
+        noise_m2: f64::from_bits(long(r, 48)),
+        filler: long(r, 56),
+    };
+    (file.len() % 64 == 0).then(|| file.chunks(64).map(reception).collect())
+}
+
+#[test]
+fn a_reception_is_laid_out_as_in_its_file() {
+    assert_eq!((size_of::<Reception>(), align_of::<Reception>()), (64, 8));
+    let at = [
+        offset_of!(Reception, identity), offset_of!(Reception, time_ps), offset_of!(Reception, site_mm),
+        offset_of!(Reception, z_m), offset_of!(Reception, noise_m2), offset_of!(Reception, filler),
+    ];
+    assert_eq!(at, [0, 8, 16, 40, 48, 56]);
+}
+
+#[test]
+fn lists_give_the_recorded_record() {
+    let bytes = recording();
+    for (k, problem) in kept(&bytes).iter().enumerate() {
+        let Some(receptions) = list(problem.files[0]) else { continue };
+        let file = |k: usize| problem.there[k].then_some(problem.files[k]);
+        let mut out = [0xA5; RECORD + 7];
+        let answer = solve_receptions(&receptions, file(1), file(2), file(3), &mut out);
+        assert_eq!(out[..RECORD], problem.record, "problem {k}");
+        assert_eq!(out[RECORD..], [0xA5; 7], "problem {k}");
+        assert_eq!(answer.to_le_bytes(), problem.record[..4], "problem {k}");
+    }
+}
+
 #[test]
 fn problems_give_the_recorded_answer() {
     let bytes = recording();
-    let long = |bytes: &[u8], at: usize| u64::from_le_bytes(bytes[at..at + 8].try_into().expect("eight bytes"));
     for (k, problem) in kept(&bytes).iter().enumerate() {
         let [receptions, clock, altitude, reference] = problem.files;
-        let numbers_only = receptions.chunks(64).all(|r| r.len() == 64 && r[56..] == [0; 8]) && clock.len() % 8 == 0;
         let whole_altitude = !problem.there[2] || altitude.len() == 16 && altitude[1..8] == [0; 7] && (1..=2).contains(&altitude[0]);
-        if !numbers_only || !whole_altitude || (problem.there[3] && reference.len() != 8) {
+        if clock.len() % 8 != 0 || !whole_altitude || (problem.there[3] && reference.len() != 8) {
             continue;
         }
-        let receptions: Vec<Reception> = receptions
-            .chunks(64)
-            .map(|r| Reception {
-                identity: long(r, 0),
-                time_ps: long(r, 8) as i64,
-                site_mm: [16, 24, 32].map(|at| long(r, at) as i64),
-                z_m: f64::from_bits(long(r, 40)),
-                noise_m2: f64::from_bits(long(r, 48)),
-            })
-            .collect();
+        let Some(receptions) = list(receptions) else { continue };
         let entries: Vec<f64> = clock.chunks(8).map(|entry| f64::from_bits(long(entry, 0))).collect();
         let metres = || f64::from_bits(long(altitude, 8));
         let found = solve(&Problem {
@@ -94,6 +125,7 @@ fn short_outputs_are_left_alone() {
     for length in 0..RECORD {
         let mut out = vec![0x5A; length];
         assert_eq!(solve_bytes(&[], None, None, None, &mut out), 14);
+        assert_eq!(solve_receptions(&[], None, None, None, &mut out), 14);
         assert!(out.iter().all(|byte| *byte == 0x5A));
     }
 }
