@@ -1,5 +1,5 @@
-/* The most stack that mlat_solve uses on the recorded inputs of standard input (crates/replay/RECORDING.md has their layout): each is solved on a stack
-   that was painted before, and what is not paint afterwards was used. A thread that does nothing shows its own share. */
+/* The most stack that mlat_solve and mlat_solve_receptions use on the recorded inputs of standard input (crates/replay/RECORDING.md has their layout): each
+   is solved on a stack that was painted before, and what is not paint afterwards was used. A thread that does nothing shows its own share. */
 #define _GNU_SOURCE
 #include <pthread.h>
 #include <stdio.h>
@@ -10,14 +10,17 @@
 enum { STACK = 1 << 20, PAINT = 0xa5 };
 
 static uint8_t recording[1 << 22], *at;
-static int stop;
+static struct mlat_reception list[1024];
+static enum { BYTES, LIST, NOTHING } way;
 
 static void *solve(void *unused) {
     uint8_t out[176];
-    if (stop) return unused;
+    if (way == NOTHING) return unused;
     size_t receptions = at[0] | at[1] << 8, clock = at[2] | at[3] << 8, altitude = at[4], reference = at[5];
     uint8_t *r = at + 8, *c = r + receptions, *a = c + clock, *f = a + altitude;
-    mlat_solve(r, receptions, c, clock, a, altitude, f, reference, at[6], out, sizeof out);
+    memcpy(list, r, receptions);
+    if (way == BYTES) mlat_solve(r, receptions, c, clock, a, altitude, f, reference, at[6], out, sizeof out);
+    else mlat_solve_receptions(list, receptions / 64, c, clock, a, altitude, f, reference, at[6], out, sizeof out);
     at = f + reference + 176;
     return unused;
 }
@@ -38,13 +41,14 @@ static size_t used(uint8_t *stack) {
 int main(void) {
     uint8_t *stack = aligned_alloc(4096, STACK);
     uint8_t *end = recording + fread(recording, 1, sizeof recording, stdin);
-    size_t most = 0, inputs = 0;
-    for (at = recording; at < end; inputs++) {
-        size_t now = used(stack);
-        if (most < now) most = now;
+    size_t most[2] = {0, 0}, inputs = 0;
+    for (way = BYTES; way < NOTHING; way++) {
+        inputs = 0;
+        for (at = recording; at < end; inputs++) {
+            size_t now = used(stack);
+            if (most[way] < now) most[way] = now;
+        }
     }
-    stop = 1;
-    size_t bare = used(stack);
-    printf("%zu inputs: at most %zu bytes of stack, %zu of them the thread's own\n", inputs, most, bare);
+    printf("%zu inputs: at most %zu bytes of stack, %zu with a list of structs, %zu of them the thread's own\n", inputs, most[BYTES], most[LIST], used(stack));
     return 0;
 }
