@@ -1,4 +1,4 @@
-/* Solves the four files of a folder: solve FOLDER. Build: rt staticlib mlat_solver; cc -Iinclude examples/solve.c target/staticlib/libmlat_solver.a -o solve */
+/* Solves the four files of a folder: solve FOLDER. Build: rt staticlib mlat_solver; cc -Iinclude examples/solve.c target/staticlib/libmlat_solver.a -o target/solve */
 #include <stdio.h>
 #include <string.h>
 #include "mlat_solver.h"

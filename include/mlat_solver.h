@@ -28,7 +28,7 @@ double mlat_atan2(double y, double x);
 double mlat_hypot(double x, double y);
 
 /* WGS 84: latitude and longitude in degrees and height above the ellipsoid in metres, geodetic[0] to [2], to Earth-centred Earth-fixed metres,
-   and back. Each entry of the array that is written is what geo.rs gives, to the bit. */
+   and back. Each entry of the array that is written is what geo.rs gives with fdlibm's functions, to the bit. */
 void mlat_to_ecef(const double geodetic[3], double ecef[3]);
 void mlat_from_ecef(const double ecef[3], double geodetic[3]);
 

@@ -7,31 +7,31 @@ pub enum Refusal {
     TooFew { included: u32 },
     /// No start converges.
     NoConvergence,
-    /// No fit lies where an aircraft can be, or the transmit time leaves i64.
+    /// No fit is plausible, or the transmit time leaves i64.
     OutOfRange,
-    /// The outlier rule did not settle.
+    /// The outlier rounds did not settle.
     NoFixedPoint,
     /// The residuals fail the chi-square test.
     Inconsistent,
-    /// A covariance without a Cholesky factor.
+    /// A covariance is not positive definite, or a residual is not a number.
     Singular,
     /// No clock covariance was given.
     Uncovered,
-    /// Two places fit the receptions alike.
+    /// Two places fit about as well.
     Ambiguous,
-    /// A standard deviation above 1,500 m.
+    /// A standard deviation above 1,500 m, or a covariance that is not positive definite.
     Uncertain,
     /// Over 32 receptions.
     TooMany,
     /// A reception's identity is not above the one before.
     Disorder { index: u32 },
-    /// A number outside its domain.
+    /// A field outside its domain, or a filler that is not zero.
     BadField(Field),
     /// The clock covariance is not n × n.
     ClockSize,
     /// Under 176 bytes lent; only [`crate::solve_bytes`] meets it.
     ShortOutput,
-    /// A file of a length that none can have; only [`crate::solve_bytes`] meets it.
+    /// An input has not a whole number of entries; only [`crate::solve_bytes`] meets it.
     TornInput,
     /// No number of a record that a solve writes.
     Unknown { number: u32, detail: u32 },
@@ -94,23 +94,23 @@ impl Refusal {
 impl fmt::Display for Refusal {
     fn fmt(&self, f: &mut fmt::Formatter) -> fmt::Result {
         match self {
-            Refusal::TooFew { included } => write!(f, "too few receptions are left ({included})"),
+            Refusal::TooFew { included } => write!(f, "too few receptions are included ({included})"),
             Refusal::NoConvergence => write!(f, "no start converges"),
-            Refusal::OutOfRange => write!(f, "no fit lies where an aircraft can be"),
-            Refusal::NoFixedPoint => write!(f, "the outlier rule does not settle"),
+            Refusal::OutOfRange => write!(f, "no fit is plausible, or the transmit time leaves 64 bits"),
+            Refusal::NoFixedPoint => write!(f, "the outlier rounds do not settle"),
             Refusal::Inconsistent => write!(f, "the residuals fail the chi-square test"),
-            Refusal::Singular => write!(f, "a covariance has no Cholesky factor"),
+            Refusal::Singular => write!(f, "a covariance is not positive definite, or a residual is not a number"),
             Refusal::Uncovered => write!(f, "no clock covariance was given"),
-            Refusal::Ambiguous => write!(f, "two places fit the receptions alike"),
+            Refusal::Ambiguous => write!(f, "two places fit about as well"),
             Refusal::Uncertain => write!(f, "the position is too poorly determined"),
             Refusal::TooMany => write!(f, "there are over 32 receptions"),
             Refusal::Disorder { index } => write!(f, "the identity of reception {index} is not above the one before"),
-            Refusal::BadField(Field::Reception { index }) => write!(f, "reception {index} has a number outside the domain"),
-            Refusal::BadField(Field::ClockRow { row }) => write!(f, "row {row} of the clock covariance has a number outside the domain"),
+            Refusal::BadField(Field::Reception { index }) => write!(f, "reception {index} has a field outside the domain"),
+            Refusal::BadField(Field::ClockRow { row }) => write!(f, "row {row} of the clock covariance has a field outside the domain"),
             Refusal::BadField(Field::Altitude) => write!(f, "the altitude lies outside the domain"),
             Refusal::ClockSize => write!(f, "the clock covariance is not n × n"),
             Refusal::ShortOutput => write!(f, "the output is shorter than 176 bytes"),
-            Refusal::TornInput => write!(f, "an input has a length that none can have"),
+            Refusal::TornInput => write!(f, "an input has not a whole number of entries"),
             Refusal::Unknown { number, detail } => write!(f, "answer {number}, detail {detail}"),
         }
     }

@@ -3,16 +3,16 @@
 use jifrosk::{Altitude, Problem, RECORD, Reception, read, solve, solve_bytes, solve_receptions};
 use std::mem::{align_of, offset_of, size_of};
 
-const KEPT: &str = concat!(env!("CARGO_MANIFEST_DIR"), "/../crates/replay/stdin");
+const RECORDED: &str = concat!(env!("CARGO_MANIFEST_DIR"), "/../crates/replay/stdin");
 
 /// oracle/kept.rs has the form.
-struct Kept<'a> {
+struct Recorded<'a> {
     files: [&'a [u8]; 4],
     there: [bool; 4],
     record: [u8; RECORD],
 }
 
-fn kept(mut bytes: &[u8]) -> Vec<Kept<'_>> {
+fn recorded(mut bytes: &[u8]) -> Vec<Recorded<'_>> {
     let mut all = Vec::new();
     while !bytes.is_empty() {
         let (head, mut rest) = bytes.split_at(8);
@@ -24,20 +24,20 @@ fn kept(mut bytes: &[u8]) -> Vec<Kept<'_>> {
         });
         let there = [3, 0, 1, 2].map(|bit: u8| head[6] >> bit & 1 == 1);
         let (record, more) = rest.split_at(RECORD);
-        all.push(Kept { files, there, record: record.try_into().expect("176 bytes") });
+        all.push(Recorded { files, there, record: record.try_into().expect("176 bytes") });
         bytes = more;
     }
     all
 }
 
 fn recording() -> Vec<u8> {
-    std::fs::read(KEPT).expect("the recording of crates/replay")
+    std::fs::read(RECORDED).expect("the recording of crates/replay")
 }
 
 #[test]
 fn bytes_give_the_recorded_record() {
     let bytes = recording();
-    for (k, problem) in kept(&bytes).iter().enumerate() {
+    for (k, problem) in recorded(&bytes).iter().enumerate() {
         let file = |k: usize| problem.there[k].then_some(problem.files[k]);
         let mut out = [0xA5; RECORD + 7];
         let answer = solve_bytes(problem.files[0], file(1), file(2), file(3), &mut out);
@@ -77,7 +77,7 @@ fn a_reception_is_laid_out_as_in_its_file() {
 #[test]
 fn lists_give_the_recorded_record() {
     let bytes = recording();
-    for (k, problem) in kept(&bytes).iter().enumerate() {
+    for (k, problem) in recorded(&bytes).iter().enumerate() {
         let Some(receptions) = list(problem.files[0]) else { continue };
         let file = |k: usize| problem.there[k].then_some(problem.files[k]);
         let mut out = [0xA5; RECORD + 7];
@@ -91,7 +91,7 @@ fn lists_give_the_recorded_record() {
 #[test]
 fn problems_give_the_recorded_answer() {
     let bytes = recording();
-    for (k, problem) in kept(&bytes).iter().enumerate() {
+    for (k, problem) in recorded(&bytes).iter().enumerate() {
         let [receptions, clock, altitude, reference] = problem.files;
         let whole_altitude = !problem.there[2] || altitude.len() == 16 && altitude[1..8] == [0; 7] && (1..=2).contains(&altitude[0]);
         if clock.len() % 8 != 0 || !whole_altitude || (problem.there[3] && reference.len() != 8) {

@@ -16,6 +16,7 @@ ghost use Rattle.damped.specs.Damped.{unfitted, levenbergMarquardt};
 ghost use Rattle.best.specs.Plausible.{maxRangeM, range, flying, nearTo, plausible};
 ghost use Rattle.best.specs.Best.{fails, told, costlier, distance, apart, fitAt, cheaper, converged, weighed, bestOf, judged, pointsTo, bestFit};
 use damped::Fit;
+use linalg::Cholesky;
 use problem::Altitude;
 
 // Heights a solution may have, metres above the ellipsoid: of solve.rs.
@@ -298,9 +299,12 @@ pub fn best_fit(
     requires { ⌜ ((a : ℕ) → a < k → pick (now index) a < n) ⌝ }
     ensures { λ r. ⌜ told r ≡ bestFit (now («clock_m2» .entry)) n (now («noise_m2» .entry)) (now (index .entry)) (now (sites .entry)) (now (z .entry)) k altitude (pointsTo (now (at .entry)) count) ⌝ }
 {
-    let mut l = [0.0; 1024];
-    if whitening::whitener(clock_m2, n, noise_m2, index, k, &mut l) {
-        let fitted = fits(sites, z, k, &l, altitude, at, count);
+    let mut factor = Cholesky {
+        n: k,
+        l: [0.0; 1024],
+    };
+    if whitening::whitener(clock_m2, n, noise_m2, index, k, &mut factor.l) {
+        let fitted = fits(sites, z, k, &factor.l, altitude, at, count);
         return judged(sites, k, fitted, count);
     }
     refused(Unfit::Singular)

@@ -14,6 +14,7 @@ use crate::finish::finish;
 use crate::finish::withheld;
 use crate::fitting::subset;
 use damped::Fit;
+use linalg::Cholesky;
 use problem::Altitude;
 
 fn has_altitude(altitude: Altitude) -> bool
@@ -100,11 +101,14 @@ pub fn settled(
     let index = used.index;
     let sites = used.sites;
     let times = used.z;
-    let mut l = [0.0; 1024];
-    if whitening::whitener(clock, n, noise, &index, k, &mut l) {
+    let mut factor = Cholesky {
+        n: k,
+        l: [0.0; 1024],
+    };
+    if whitening::whitener(clock, n, noise, &index, k, &mut factor.l) {
         let dof = dof(included, altitude);
         let params = fit.params;
-        if fit.cost > limit(&sites, &times, k, &l, altitude, params, dof) {
+        if fit.cost > limit(&sites, &times, k, &factor.l, altitude, params, dof) {
             return withheld(Unpublished::Inconsistent);
         }
         return finish(included, dof, reference_ps, fit);

@@ -7,32 +7,20 @@ ghost use Prim.Native.Nat.{_*_, _≤_};
 ghost use lib.ListN.{length};
 ghost use mathlib.Core.Path.{_≡_};
 ghost use Rattle.receptions.specs.Receptions.{receptionBytes, receptionAt, fieldsOf};
+use cases::Tally;
 use inputs::Check;
 use inputs::Given;
-use libc::STDIN_FILENO;
 use libc::STDOUT_FILENO;
 use receptions::Fields;
 
-// The longest file of a case: the clock covariance of 32 receptions and a word.
-const LONGEST: usize = 8200;
-
 const ABSENT: u64 = 0xffff_ffff_ffff_ffff;
 
-// The length of a file, of those that a case may have.
-fn length_of(word: u64) -> usize
-    ensures { λ r. ⌜ r ≤ 8200 ⌝ }
-{
-    if word <= LONGEST as u64 {
-        return word as usize;
+// The length of a file that is there; an absent one has no bytes.
+fn length_of(word: u64) -> usize {
+    if word == ABSENT {
+        return 0;
     }
-    0
-}
-
-// The next n bytes of standard input, and whether they were there.
-fn read(bytes: &mut [u8], n: usize) -> bool
-    requires { ⌜ n ≤ length (now bytes) ⌝ }
-{
-    io::read_full(STDIN_FILENO, &mut bytes[..n]) == n
+    word as usize
 }
 
 // n receptions by field, where they are no more than 32.
@@ -77,20 +65,16 @@ fn answers(
     }
 }
 
-// The same of the files at the start of these arrays.
-fn answers_of(
-    receptions: &[u8],
-    clock: &[u8],
-    altitude: &[u8],
-    reference: &[u8],
-    header: &[u8; 64],
-) -> bool
-    requires { ⌜ (8200 ≤ length (now receptions)) × (8200 ≤ length (now clock)) × (8200 ≤ length (now altitude)) × (8200 ≤ length (now reference)) ⌝ }
-{
-    let a = length_of(words::u64_at(header, 0));
-    let b = length_of(words::u64_at(header, 8));
-    let c = length_of(words::u64_at(header, 16));
-    let d = length_of(words::u64_at(header, 24));
+// Whether the case of this header, whose files come next, is answered as expected.
+fn agrees(header: &[u8; 64]) -> bool {
+    let mut receptions = [0u8; 8200];
+    let mut clock = [0u8; 8200];
+    let mut altitude = [0u8; 8200];
+    let mut reference = [0u8; 8200];
+    let a = cases::read(&mut receptions, length_of(words::u64_at(header, 0)));
+    let b = cases::read(&mut clock, length_of(words::u64_at(header, 8)));
+    let c = cases::read(&mut altitude, length_of(words::u64_at(header, 16)));
+    let d = cases::read(&mut reference, length_of(words::u64_at(header, 24)));
     let g = Given {
         clock: words::u64_at(header, 8) != ABSENT,
         altitude: words::u64_at(header, 16) != ABSENT,
@@ -106,47 +90,27 @@ fn answers_of(
     )
 }
 
-// Whether the case of this header, whose files come next, is answered as expected.
-fn agrees(header: &[u8; 64]) -> bool {
-    let mut receptions = [0u8; 8200];
-    let mut clock = [0u8; 8200];
-    let mut altitude = [0u8; 8200];
-    let mut reference = [0u8; 8200];
-    if !read(&mut receptions, length_of(words::u64_at(header, 0))) {
-        return false;
-    }
-    if !read(&mut clock, length_of(words::u64_at(header, 8))) {
-        return false;
-    }
-    if !read(&mut altitude, length_of(words::u64_at(header, 16))) {
-        return false;
-    }
-    if !read(&mut reference, length_of(words::u64_at(header, 24))) {
-        return false;
-    }
-    answers_of(&receptions, &clock, &altitude, &reference, header)
-}
-
 // The next header, and whether there was one.
 fn next(header: &mut [u8; 64]) -> bool {
-    io::read_full(STDIN_FILENO, header) == 64
+    cases::read(header, 64) == 64
+}
+
+fn print(tally: Tally) {
+    io::print_decimal(STDOUT_FILENO, tally.compared);
+    io::write_all(STDOUT_FILENO, b" compared, ");
+    io::print_decimal(STDOUT_FILENO, tally.differ);
+    io::write_all(STDOUT_FILENO, b" differ\n");
 }
 
 fn main() {
     let mut header = [0u8; 64];
-    let mut compared = 0u64;
-    let mut differ = 0u64;
-    // a proved loop has to end, and nothing says that an input does: there are fewer cases
-    let mut turns = 1000000u64;
-    while turns > 0 && next(&mut header) {
-        turns -= 1;
-        compared += 1;
-        if !agrees(&header) {
-            differ += 1;
-        }
+    let mut tally = Tally {
+        compared: 0,
+        differ: 0,
+    };
+    while tally.compared < cases::MOST && next(&mut header) {
+        let same = agrees(&header);
+        tally = tally.with(same);
     }
-    io::print_decimal(STDOUT_FILENO, compared);
-    io::write_all(STDOUT_FILENO, b" compared, ");
-    io::print_decimal(STDOUT_FILENO, differ);
-    io::write_all(STDOUT_FILENO, b" differ\n");
+    print(tally);
 }

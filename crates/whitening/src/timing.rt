@@ -5,6 +5,7 @@ ghost use Prim.Native.Nat.{ℕ, _-_, _<_, _≤_};
 ghost use Rattle.dense.specs.Factor.{verdict};
 ghost use Rattle.problem.specs.Gathered.{pick};
 ghost use Rattle.whitening.specs.Covariance.{shared, covarianceRowTo, covariance, sigma, whitener};
+use linalg::Matrix;
 
 // The covariance of the a-th and the b-th chosen.
 fn shared(
@@ -87,7 +88,7 @@ pub fn whitener(
     requires { ⌜ ((i : ℕ) → i < k → pick (now index) i < n) ⌝ }
     ensures { λ r. ⌜ verdict r (now (l .exit)) ≡ whitener (now (clock .entry)) n (now (noise .entry)) (now (index .entry)) k (now (l .entry)) ⌝ }
 {
-    let mut sigma = [0.0; 1024];
-    covariance(clock, n, noise, index, k, &mut sigma);
-    dense::cholesky(&sigma, k, &mut *l)
+    let mut sigma = Matrix::zeros(k);
+    covariance(clock, n, noise, index, k, &mut sigma.data);
+    Matrix::cholesky(&sigma.data, k, &mut *l)
 }

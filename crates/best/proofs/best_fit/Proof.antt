@@ -17,10 +17,10 @@ judged-requires c κs = search needs
 
 returns : tie.Need-returns
 returns c =
-    let s = c .before .before .before .before .before .before .args in
-    let w = c .before .before .before .before .whitener in
+    let s = c .before .before .before .before .before .before .before .args in
+    let w = c .before .before .before .before .before .whitener in
     let made = c .before .fits2 in
-    whitened-found (s .clock-m2 .now) (s .n) (s .noise-m2 .now) (s .index .now) (s .sites .now) (s .z .now) (s .k) (s .altitude) (pointsTo (s .at .now) (s .count)) (w .result) _ (w .ensures) (told (c .judged .result)) (c .before .before .before .if1 .taken) (take (s .count) (made .result)) (made .ensures .1) (c .judged .ensures)
+    whitened-found (s .clock-m2 .now) (s .n) (s .noise-m2 .now) (s .index .now) (s .sites .now) (s .z .now) (s .k) (s .altitude) (pointsTo (s .at .now) (s .count)) (w .result) _ (w .ensures) (told (c .judged .result)) (c .before .before .before .before .if1 .taken) (take (s .count) (made .result)) (made .ensures .1) (c .judged .ensures)
 
 refused-requires : tie.Need-refused-requires
 refused-requires c κs = search needs

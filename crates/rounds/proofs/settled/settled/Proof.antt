@@ -27,24 +27,24 @@ dof-requires c κs = search needs
 
 limit-requires : tie.Need-limit-requires
 limit-requires c κs =
-    let s = c .before .before .before .before .before .before .before .before .before .before .before .before .before in
-    subset-fits (s .args .site .now) (s .args .z .now) (s .args .n) (has (s .args .included)) (c .before .before .before .before .before .before .before .before .before .before .before .before .subset .result) (c .before .before .before .before .before .before .before .before .before .before .before .before .subset .ensures) (s .pre .0) .0
+    let s = c .before .before .before .before .before .before .before .before .before .before .before .before .before .before in
+    subset-fits (s .args .site .now) (s .args .z .now) (s .args .n) (has (s .args .included)) (c .before .before .before .before .before .before .before .before .before .before .before .before .before .subset .result) (c .before .before .before .before .before .before .before .before .before .before .before .before .before .subset .ensures) (s .pre .0) .0
 
 withheld-requires : tie.Need-withheld-requires
 withheld-requires c κs = search needs
 
 returns : tie.Need-returns
 returns c =
-    let s = c .before .before .before .before .before .before .before .before .before .before .before .before .before .before .before .before .before in
-    c .withheld .ensures ∙ late-inconsistent (heard s) (s .args .reference-ps) (s .args .included) (s .pre .1) (s .pre .0) (s .args .fit) (c .before .before .before .before .before .before .before .before .before .before .before .before .before .before .before .before .subset .result) (c .before .before .before .before .before .before .before .before .before .before .before .before .before .before .before .before .subset .ensures) _ (rw (c .before .before .before .before .before .before .before .before .before .if1 .taken) at (c .before .before .before .before .before .before .before .before .before .before .whitener .ensures)) (c .before .before .before .before .before .before .before .before .dof .result) (c .before .before .before .before .before .before .before .before .dof .ensures) (c .before .before .before .limit .result) (c .before .before .before .limit .ensures) (c .before .if2 .taken)
+    let s = c .before .before .before .before .before .before .before .before .before .before .before .before .before .before .before .before .before .before in
+    c .withheld .ensures ∙ late-inconsistent (heard s) (s .args .reference-ps) (s .args .included) (s .pre .1) (s .pre .0) (s .args .fit) (c .before .before .before .before .before .before .before .before .before .before .before .before .before .before .before .before .before .subset .result) (c .before .before .before .before .before .before .before .before .before .before .before .before .before .before .before .before .before .subset .ensures) _ (rw (c .before .before .before .before .before .before .before .before .before .before .if1 .taken) at (c .before .before .before .before .before .before .before .before .before .before .before .whitener .ensures)) (c .before .before .before .before .before .before .before .before .before .dof .result) (c .before .before .before .before .before .before .before .before .before .dof .ensures) (c .before .before .before .limit .result) (c .before .before .before .limit .ensures) (c .before .if2 .taken)
 
 finish-requires : tie.Need-finish-requires
 finish-requires c κs = search needs
 
 returns-2 : tie.Need-returns-2
 returns-2 c =
-    let s = c .before .before .before .before .before .before .before .before .before .before .before .before .before .before .before .before .before in
-    (rw (toZ-ofZ w64 (s .args .reference-ps) (s .fits .reference-ps)) at (c .finish .ensures)) ∙ late-finish (heard s) (s .args .reference-ps) (s .args .included) (s .pre .1) (s .pre .0) (s .args .fit) (c .before .before .before .before .before .before .before .before .before .before .before .before .before .before .before .before .subset .result) (c .before .before .before .before .before .before .before .before .before .before .before .before .before .before .before .before .subset .ensures) _ (rw (c .before .before .before .before .before .before .before .before .before .if1 .taken) at (c .before .before .before .before .before .before .before .before .before .before .whitener .ensures)) (c .before .before .before .before .before .before .before .before .dof .result) (c .before .before .before .before .before .before .before .before .dof .ensures) (c .before .before .before .limit .result) (c .before .before .before .limit .ensures) (c .before .if2 .left)
+    let s = c .before .before .before .before .before .before .before .before .before .before .before .before .before .before .before .before .before .before in
+    (rw (toZ-ofZ w64 (s .args .reference-ps) (s .fits .reference-ps)) at (c .finish .ensures)) ∙ late-finish (heard s) (s .args .reference-ps) (s .args .included) (s .pre .1) (s .pre .0) (s .args .fit) (c .before .before .before .before .before .before .before .before .before .before .before .before .before .before .before .before .before .subset .result) (c .before .before .before .before .before .before .before .before .before .before .before .before .before .before .before .before .before .subset .ensures) _ (rw (c .before .before .before .before .before .before .before .before .before .before .if1 .taken) at (c .before .before .before .before .before .before .before .before .before .before .before .whitener .ensures)) (c .before .before .before .before .before .before .before .before .before .dof .result) (c .before .before .before .before .before .before .before .before .before .dof .ensures) (c .before .before .before .limit .result) (c .before .before .before .limit .ensures) (c .before .if2 .left)
 
 withheld-requires-2 : tie.Need-withheld-requires-2
 withheld-requires-2 c κs = search needs

@@ -1,31 +1,21 @@
--- `whitening::timing::whitener` meets its contract. The promises of `covariance` and `cholesky`, put together; the covariance keeps the length of its array. Assumes nothing.
-use mathlib.Core.Path.{sym, ap, _∙_}
-use native.Mathlib.Omega.{arith}
-use lib.ListN.{length}
-use Rattle.dense.proofs.Places.{room}
+-- `whitening::timing::whitener` meets its contract: the promises of `zeros`, `covariance` and `cholesky`, put together. Assumes nothing.
+use borrow.Author.Needs.{needs}
 use Rattle.whitening.specs.Covariance.{whitener}
-use Rattle.whitening.proofs.Lengths.{covariance-length}
 use Rattle.whitening.proofs.timing.whitener.Statement.{statement}
 use Rattle.whitening.proofs.timing.whitener.Tie as tie
 
-covariance-requires : tie.Need-covariance-requires
-covariance-requires c κs = ((omega arith, omega arith), c .before .pre .1)
+zeros-requires : tie.Need-zeros-requires
+zeros-requires c κs = search needs
 
-slice-aggregate-cholesky : tie.Need-slice-aggregate-cholesky
-slice-aggregate-cholesky c = sym (ap length (c .before .covariance .ensures) ∙ covariance-length _ _ _ _ _ _ _)
+covariance-requires : tie.Need-covariance-requires
+covariance-requires c κs = search needs
 
 cholesky-requires : tie.Need-cholesky-requires
-cholesky-requires c κs = omega (arith, room (c .before .before .before .before .args .k) (omega arith), ap length (c .before .before .covariance .ensures) ∙ covariance-length _ _ _ _ _ _ _, (c .before), c)
+cholesky-requires c κs = search needs
 
 returns : tie.Need-returns
 unfolding whitener
-returns c = rw (← c .before .before .before .covariance .ensures) (c .cholesky .ensures)
+returns c = rw (c .cholesky .ensures, c .before .before .before .before .covariance .ensures, c .before .before .before .before .before .before .zeros .ensures)
 
 pub whitener-spec : {M : Type 1} → statement M
-whitener-spec =
-    tie.close
-    (tie.spec
-    covariance-requires
-    slice-aggregate-cholesky
-    cholesky-requires
-    returns)
+whitener-spec = tie.close (tie.spec zeros-requires covariance-requires cholesky-requires returns)
