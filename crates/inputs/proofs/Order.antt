@@ -14,7 +14,6 @@ use Rattle.inputs.specs.declared.Fault.the-variants.{TornInput, TooMany,
 use Rattle.inputs.specs.declared.Check.{Check}
 use Rattle.inputs.specs.declared.Check.the-variants.{Passed, Refused}
 use Rattle.inputs.specs.Faults.{orElse, unless, firstTo}
-use Rattle.inputs.specs.Files.{altitudeBytes, referenceBytes}
 use Rattle.inputs.specs.Inputs.{Inputs, given, bytesOf, sized, whole, checkReception, checkRow, checkClock, checkAltitude, checkCovered, checkInputs}
 
 pub both-of : (a b : Bool) → a && b ≡ true → (a ≡ true) × (b ≡ true)
@@ -44,24 +43,24 @@ module _ (I : Inputs) where
   unfolding whole
   torn-1 e = rw e
 
-  pub torn-2 : sized altitudeBytes (I .altitude) ≡ false → whole I ≡ false
+  pub torn-2 : sized 16 (I .altitude) ≡ false → whole I ≡ false
   unfolding whole
   torn-2 e = go (I .whole)
     where
-      go : (a : Bool) → a && (sized altitudeBytes (I .altitude) && sized referenceBytes (I .reference)) ≡ false
+      go : (a : Bool) → a && (sized 16 (I .altitude) && sized 8 (I .reference)) ≡ false
       go true = rw e
       go false = refl
 
-  pub torn-3 : sized referenceBytes (I .reference) ≡ false → whole I ≡ false
+  pub torn-3 : sized 8 (I .reference) ≡ false → whole I ≡ false
   unfolding whole
-  torn-3 e = go (I .whole) (sized altitudeBytes (I .altitude))
+  torn-3 e = go (I .whole) (sized 16 (I .altitude))
     where
-      go : (a b : Bool) → a && (b && sized referenceBytes (I .reference)) ≡ false
+      go : (a b : Bool) → a && (b && sized 8 (I .reference)) ≡ false
       go true true = e
       go true false = refl
       go false b = refl
 
-  pub all-whole : I .whole ≡ true → sized altitudeBytes (I .altitude) ≡ true → sized referenceBytes (I .reference) ≡ true → whole I ≡ true
+  pub all-whole : I .whole ≡ true → sized 16 (I .altitude) ≡ true → sized 8 (I .reference) ≡ true → whole I ≡ true
   unfolding whole
   all-whole e f g = rw (e, f, g)
 
@@ -110,18 +109,18 @@ module _ (I : Inputs) where
     pub is-covered : checkCovered (I .clock) ≡ Passed
     is-covered = or-of (checkAltitude (I .altitude)) (checkCovered (I .clock)) (after-clock .1) .1
 
-    parts : (I .whole ≡ true) × (sized altitudeBytes (I .altitude) && sized referenceBytes (I .reference) ≡ true)
+    parts : (I .whole ≡ true) × (sized 16 (I .altitude) && sized 8 (I .reference) ≡ true)
     unfolding whole
-    parts = both-of (I .whole) (sized altitudeBytes (I .altitude) && sized referenceBytes (I .reference)) (good-of _ TornInput (after-torn .0))
+    parts = both-of (I .whole) (sized 16 (I .altitude) && sized 8 (I .reference)) (good-of _ TornInput (after-torn .0))
 
     pub is-whole : I .whole ≡ true
     is-whole = parts .0
 
-    pub whole-altitude : sized altitudeBytes (I .altitude) ≡ true
-    whole-altitude = both-of (sized altitudeBytes (I .altitude)) (sized referenceBytes (I .reference)) (parts .1) .0
+    pub whole-altitude : sized 16 (I .altitude) ≡ true
+    whole-altitude = both-of (sized 16 (I .altitude)) (sized 8 (I .reference)) (parts .1) .0
 
-    pub whole-reference : sized referenceBytes (I .reference) ≡ true
-    whole-reference = both-of (sized altitudeBytes (I .altitude)) (sized referenceBytes (I .reference)) (parts .1) .1
+    pub whole-reference : sized 8 (I .reference) ≡ true
+    whole-reference = both-of (sized 16 (I .altitude)) (sized 8 (I .reference)) (parts .1) .1
 
 -- a clock that is there has its size, and its rows pass
 pub clock-of : (there : Bool) (b : List ℕ) (n : ℕ) → checkClock (given there b) n ≡ Passed → checkCovered (given there b) ≡ Passed → (bytesOf (given there b) ≡ b) × (length b ≡ 8 * (n * n)) × (firstTo (checkRow b n) n ≡ Passed)

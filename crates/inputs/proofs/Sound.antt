@@ -25,9 +25,9 @@ use Rattle.inputs.specs.declared.Fault.the-variants.{Disorder, BadField}
 use Rattle.inputs.specs.declared.Check.the-variants.{Passed}
 use Rattle.inputs.specs.declared.Given.{Given}
 use Rattle.inputs.specs.Faults.{unless, firstTo}
-use Rattle.inputs.specs.Files.{entryAt, kindAt, metresAt}
+use Rattle.words.specs.Words.{u64At, f64At}
 use Rattle.inputs.specs.Domain.{goodTime, goodCoordinate, goodSite, goodZ, goodNoise, goodReception, goodEntry, goodMetres, goodAltitude}
-use Rattle.inputs.specs.Inputs.{Inputs, inputsOf, ascends, checkReception, goodRowTo, checkRow, checkAltitude, checkInputs, metresOf, upperAt, covarianceOf, bytesOf, altitudeOf, referenceOf, problemOf}
+use Rattle.inputs.specs.Inputs.{entryAt, Inputs, inputsOf, ascends, checkReception, goodRowTo, checkRow, checkAltitude, checkInputs, metresOf, upperAt, covarianceOf, bytesOf, altitudeOf, referenceOf, problemOf}
 use Rattle.inputs.specs.InDomain.{InDomain, Ascending, altitudeGood}
 use Rattle.inputs.proofs.Order.{both-of, good-of, or-of, few, passed-receptions, passed-clock, passed-altitude, is-covered, clock-of, first-of}
 use Rattle.receptions.proofs.Filling.{fill-at}
@@ -101,9 +101,9 @@ tested kind metres e = both-of (eqb kind 1 || eqb kind 2) (goodMetres metres) e 
 
 metres-good : (alt : Option (List ℕ)) → checkAltitude alt ≡ Passed → altitudeGood (altitudeOf alt) ≡ true
 metres-good none e = refl
-metres-good (some a) e = go (eqb (kindAt a) 1) (tested (kindAt a) (metresAt a) (good-of (goodAltitude (kindAt a) (metresAt a)) (BadField 200) e))
+metres-good (some a) e = go (eqb (u64At a 0) 1) (tested (u64At a 0) (f64At a 8) (good-of (goodAltitude (u64At a 0) (f64At a 8)) (BadField 200) e))
   where
-    go : (first : Bool) → goodMetres (metresAt a) ≡ true → altitudeGood (cond first (Barometric (metresAt a)) (Gnss (metresAt a))) ≡ true
+    go : (first : Bool) → goodMetres (f64At a 8) ≡ true → altitudeGood (cond first (Barometric (f64At a 8)) (Gnss (f64At a 8))) ≡ true
     go true f = f
     go false f = f
 

@@ -18,9 +18,8 @@ use Rattle.receptions.specs.Receptions.{floats, receptionIn}
 use Rattle.inputs.specs.declared.Fault.the-variants.{Disorder, BadField}
 use Rattle.inputs.specs.declared.Check.{Check}
 use Rattle.inputs.specs.Faults.{orElse, unless, firstTo}
-use Rattle.inputs.specs.Files.{entryAt}
 use Rattle.inputs.specs.Domain.{goodReception, goodEntry}
-use Rattle.inputs.specs.Inputs.{ascends, checkReception, goodRowTo, metresOf, given, sized}
+use Rattle.inputs.specs.Inputs.{entryAt, ascends, checkReception, goodRowTo, metresOf, given, sized}
 use Rattle.receptions.proofs.Filling.{fill-three}
 
 pub first-next : (check : ℕ → Check) (k : ℕ) → orElse (firstTo check k) (check k) ≡ firstTo check (k + 1)

@@ -10,7 +10,7 @@ use lib.Ieee.{Float}
 use Rattle.binary64.specs.Steps.{nought}
 use Rattle.dense.specs.Entries.{nth}
 use Rattle.geo.specs.Geo.{fromMm}
-use Rattle.words.specs.Words.{i64At}
+use Rattle.words.specs.Words.{u64At, i64At, f64At}
 use Rattle.problem.specs.declared.Altitude.{Altitude}
 use Rattle.problem.specs.declared.Altitude.the-variants.{None, Barometric, Gnss}
 use Rattle.problem.specs.declared.Problem.{Problem}
@@ -21,7 +21,6 @@ use Rattle.inputs.specs.declared.Check.{Check}
 use Rattle.inputs.specs.declared.Check.the-variants.{Passed, Refused}
 use Rattle.inputs.specs.declared.Given.{Given}
 use Rattle.inputs.specs.Faults.{orElse, unless, firstTo}
-use Rattle.inputs.specs.Files.{altitudeBytes, referenceBytes, entryAt, kindAt, metresAt}
 use Rattle.inputs.specs.Domain.{goodReception, goodEntry, goodAltitude}
 
 -- the receptions (whether they came whole, how many, and each), and the bytes of clock.bin, altitude.bin and reference.bin
@@ -39,14 +38,7 @@ given there bytes = cond there (some bytes) none
 
 abbrev pub inputsOf : Bool → ℕ → (ℕ → Reception) → Given → List ℕ → List ℕ → List ℕ → Inputs
 inputsOf whole n at g clock altitude reference =
-    record {
-      whole = whole;
-      n = n;
-      at = at;
-      clock = given (g .clock) clock;
-      altitude = given (g .altitude) altitude;
-      reference = given (g .reference) reference;
-    }
+    record { whole = whole; n = n; at = at; clock = given (g .clock) clock; altitude = given (g .altitude) altitude; reference = given (g .reference) reference }
 
 -- ---- what they are turned away for
 
@@ -56,7 +48,7 @@ sized size (some bytes) = eqb (length bytes) size
 
 -- 15: "receptions not a multiple of 64, altitude not 16, reference not 8 bytes"
 unfoldable pub whole : Inputs → Bool
-whole I = I .whole && (sized altitudeBytes (I .altitude) && sized referenceBytes (I .reference))
+whole I = I .whole && (sized 16 (I .altitude) && sized 8 (I .reference))
 
 -- 11: "identity not above the one before"
 unfoldable pub ascends : (ℕ → ℕ) → ℕ → Bool
@@ -68,27 +60,29 @@ unfoldable pub checkReception : (ℕ → Reception) → ℕ → Check
 unfolding goodReception ascends
 checkReception at i = orElse (unless (goodReception (at i)) (BadField i)) (unless (ascends (λ k. at k .id) i) (Disorder i))
 
+-- "`clock.bin`: n × n f64, m²": the entry in row i and column j
+unfoldable pub entryAt : List ℕ → ℕ → ℕ → ℕ → Float
+entryAt bytes n i j = f64At bytes (8 * (i * n + j))
+
 -- the first k entries of row i from the diagonal on. "Clock entries left of the diagonal are never read."
 unfoldable pub goodRowTo : List ℕ → ℕ → ℕ → ℕ → Bool
 unfolding goodEntry entryAt
 goodRowTo clock n i zero = true
 goodRowTo clock n i (suc k) = goodRowTo clock n i k && goodEntry i (i + k) (entryAt clock n i (i + k))
 
-abbrev pub goodRow : List ℕ → ℕ → ℕ → Bool
-goodRow clock n i = goodRowTo clock n i (n - i)
-
 -- "clock entries by rows": row i
 abbrev pub checkRow : List ℕ → ℕ → ℕ → Check
-checkRow clock n i = unless (goodRow clock n i) (BadField (100 + i))
+checkRow clock n i = unless (goodRowTo clock n i (n - i)) (BadField (100 + i))
 
 -- 13: "`clock.bin` present, not 8n² bytes"; then its entries
 abbrev pub checkClock : Option (List ℕ) → ℕ → Check
 checkClock none n = Passed
 checkClock (some clock) n = orElse (unless (eqb (length clock) (8 * (n * n))) ClockSize) (firstTo (checkRow clock n) n)
 
+-- "`altitude.bin`: kind byte, seven zero bytes, metres f64". The kind and the zero bytes are one u64, which is the kind.
 abbrev pub checkAltitude : Option (List ℕ) → Check
 checkAltitude none = Passed
-checkAltitude (some altitude) = unless (goodAltitude (kindAt altitude) (metresAt altitude)) (BadField 200)
+checkAltitude (some altitude) = unless (goodAltitude (u64At altitude 0) (f64At altitude 8)) (BadField 200)
 
 -- 7: "no clock covariance"
 abbrev pub checkCovered : Option (List ℕ) → Check
@@ -126,7 +120,7 @@ bytesOf (some bytes) = bytes
 
 abbrev pub altitudeOf : Option (List ℕ) → Altitude
 altitudeOf none = None
-altitudeOf (some altitude) = let metres = metresAt altitude in cond (eqb (kindAt altitude) 1) (Barometric metres) (Gnss metres)
+altitudeOf (some altitude) = let metres = f64At altitude 8 in cond (eqb (u64At altitude 0) 1) (Barometric metres) (Gnss metres)
 
 -- "absent means 0"
 abbrev pub referenceOf : Option (List ℕ) → ℤ

@@ -2,7 +2,8 @@
 ghost use mathlib.Core.Path.{_≡_};
 ghost use Prim.Native.Nat.{_*_, _<_, _≤_};
 ghost use lib.ListN.{length};
-ghost use Rattle.inputs.specs.Files as files;
+ghost use Rattle.words.specs.Words.{u64At, f64At};
+ghost use Rattle.inputs.specs.Inputs.{entryAt};
 
 // The bytes of altitude.bin and of reference.bin.
 pub const ALTITUDE: usize = 16;
@@ -12,22 +13,22 @@ pub const REFERENCE: usize = 8;
 // The clock covariance of receptions i and j of n.
 pub fn entry_at(clock: &[u8], n: usize, i: usize, j: usize) -> f64
     requires { ⌜ (n ≤ 32) × (i < n) × (j < n) × (length (now clock) ≡ 8 * (n * n)) ⌝ }
-    ensures { λ r. ⌜ r ≡ files.entryAt (now (clock .entry)) n i j ⌝ }
+    ensures { λ r. ⌜ r ≡ entryAt (now (clock .entry)) n i j ⌝ }
 {
     words::f64_at(clock, 8 * (i * n + j))
 }
 
 // The kind byte of altitude.bin with the seven bytes after it.
 pub fn kind_at(altitude: &[u8]) -> u64
-    requires { ⌜ length (now altitude) ≡ files.altitudeBytes ⌝ }
-    ensures { λ r. ⌜ r ≡ files.kindAt (now (altitude .entry)) ⌝ }
+    requires { ⌜ length (now altitude) ≡ 16 ⌝ }
+    ensures { λ r. ⌜ r ≡ u64At (now (altitude .entry)) 0 ⌝ }
 {
     words::u64_at(altitude, 0)
 }
 
 pub fn metres_at(altitude: &[u8]) -> f64
-    requires { ⌜ length (now altitude) ≡ files.altitudeBytes ⌝ }
-    ensures { λ r. ⌜ r ≡ files.metresAt (now (altitude .entry)) ⌝ }
+    requires { ⌜ length (now altitude) ≡ 16 ⌝ }
+    ensures { λ r. ⌜ r ≡ f64At (now (altitude .entry)) 8 ⌝ }
 {
     words::f64_at(altitude, 8)
 }

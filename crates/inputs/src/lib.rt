@@ -5,14 +5,13 @@ mod files;
 ghost use mathlib.Core.Path.{_≡_};
 ghost use mathlib.Core.Bool.{true};
 ghost use mathlib.Core.List.{[], _∷_};
-ghost use Prim.Native.Nat.{_+_, _*_, _<_, _≤_};
+ghost use Prim.Native.Nat.{_+_, _*_, _-_, _<_, _≤_};
 ghost use lib.IntN.{pos};
 ghost use lib.ListN.{length, set, getD};
 ghost use Rattle.dense.specs.Entries.{nth};
 ghost use Rattle.receptions.specs.Receptions.{fieldsOf, receptionIn};
 ghost use Rattle.inputs.specs.declared.Fault.the-variants.{Disorder, BadField};
 ghost use Rattle.inputs.specs.Faults as faults;
-ghost use Rattle.inputs.specs.Files as files;
 ghost use Rattle.inputs.specs.Domain.{goodReception};
 ghost use Rattle.inputs.specs.Inputs as inputs;
 ghost use Rattle.inputs.specs.InDomain.{InDomain, Ascending};
@@ -147,7 +146,7 @@ fn check_receptions(f: Fields, n: usize) -> Check
 // Whether the entries of row i on and right of the diagonal are in the domain.
 fn good_row(clock: &[u8], n: usize, i: usize) -> bool
     requires { ⌜ (n ≤ 32) × (i < n) × (length (now clock) ≡ 8 * (n * n)) ⌝ }
-    ensures { λ r. ⌜ r ≡ inputs.goodRow (now (clock .entry)) n i ⌝ }
+    ensures { λ r. ⌜ r ≡ inputs.goodRowTo (now (clock .entry)) n i (n - i) ⌝ }
 {
     let mut good = true;
     for j in i..n {
@@ -189,7 +188,7 @@ fn check_clock(there: bool, clock: &[u8], n: usize) -> Check
 }
 
 fn check_altitude(there: bool, altitude: &[u8]) -> Check
-    requires { ⌜ inputs.sized files.altitudeBytes (inputs.given there (now altitude)) ≡ true ⌝ }
+    requires { ⌜ inputs.sized 16 (inputs.given there (now altitude)) ≡ true ⌝ }
     ensures { λ r. ⌜ r ≡ inputs.checkAltitude (inputs.given there (now (altitude .entry))) ⌝ }
 {
     if !there {
@@ -290,7 +289,7 @@ fn covariance_of(clock: &[u8], n: usize) -> [f64; 1024]
 }
 
 fn altitude_of(there: bool, altitude: &[u8]) -> Altitude
-    requires { ⌜ inputs.sized files.altitudeBytes (inputs.given there (now altitude)) ≡ true ⌝ }
+    requires { ⌜ inputs.sized 16 (inputs.given there (now altitude)) ≡ true ⌝ }
     ensures { λ r. ⌜ r ≡ inputs.altitudeOf (inputs.given there (now (altitude .entry))) ⌝ }
 {
     if there {
@@ -304,7 +303,7 @@ fn altitude_of(there: bool, altitude: &[u8]) -> Altitude
 }
 
 fn reference_of(there: bool, reference: &[u8]) -> i64
-    requires { ⌜ inputs.sized files.referenceBytes (inputs.given there (now reference)) ≡ true ⌝ }
+    requires { ⌜ inputs.sized 8 (inputs.given there (now reference)) ≡ true ⌝ }
     ensures { λ r. ⌜ r ≡ inputs.referenceOf (inputs.given there (now (reference .entry))) ⌝ }
 {
     if there {

@@ -1,7 +1,7 @@
 -- `inputs::files::entry_at` meets its contract: the entry lies in the file (`place`, `room`). Assumes nothing.
 use native.Mathlib.Omega.{arith}
 use Rattle.dense.proofs.Places.{place, room}
-use Rattle.inputs.specs.Files.{entryAt}
+use Rattle.inputs.specs.Inputs.{entryAt}
 use Rattle.inputs.proofs.files.entry_at.Statement.{statement}
 use Rattle.inputs.proofs.files.entry_at.Tie as tie
 
