@@ -1,21 +1,21 @@
 -- How many are in a set. Assumes nothing.
 use mathlib.Core.Path.{_≡_, refl, sym, ap, subst}
 use mathlib.Core.Logic.{_⊎_, inl, inr}
-use mathlib.Core.Bool.{Bool, true, false, not}
+use mathlib.Core.Bool.{Bool, true, false, not, cond}
 use Prim.Native.Nat.{ℕ, zero, suc, _+_, _≤_, _<_}
 use native.Mathlib.Omega.{arith}
 use lib.Dec.{T, not-T}
-use Rattle.sets.specs.Sets.{Subset, without, bit, count}
+use Rattle.sets.specs.Sets.{Subset, without, count}
 use Rattle.sets.proofs.Tests.{either, same-T, lt-suc-cases}
 use Rattle.sets.proofs.Belonging.{in-without}
 
-bit-in : (b : Bool) → T b → bit b ≡ 1
+bit-in : (b : Bool) → T b → _≡_ {A = ℕ} (cond b 1 0) 1
 bit-in true t = refl
 
-bit-out : (b : Bool) → T (not b) → bit b ≡ 0
+bit-out : (b : Bool) → T (not b) → _≡_ {A = ℕ} (cond b 1 0) 0
 bit-out false t = refl
 
-bit-le : (b : Bool) → bit b ≤ 1
+pub bit-le : (b : Bool) → cond b 1 0 ≤ 1
 bit-le true = omega arith
 bit-le false = omega arith
 
@@ -35,7 +35,7 @@ unfolding count
 count-pos S zero i h t = absurd (omega arith)
 count-pos S (suc k) i h t = go (lt-suc-cases i k h) (λ l. count-pos S k i l t)
   where
-    go : (i ≡ k) ⊎ (i < k) → (i < k → 0 < count S k) → 0 < bit (S k) + count S k
+    go : (i ≡ k) ⊎ (i < k) → (i < k → 0 < count S k) → 0 < cond (S k) 1 0 + count S k
     go (inl e) f = omega (arith, bit-in (S k) (subst (λ (x : ℕ). T (S x)) e t))
     go (inr l) f = omega (arith, f l)
 
@@ -61,6 +61,6 @@ count-without S (suc k) i h t = go (lt-suc-cases i k h) (λ l. count-without S k
     goes : i ≡ k → T (not (without S i k))
     goes e = not-T (without S i k) (λ u. in-without S i k .0 u .1 (sym e))
 
-    go : (i ≡ k) ⊎ (i < k) → (i < k → suc (count (without S i) k) ≡ count S k) → suc (bit (without S i k) + count (without S i) k) ≡ bit (S k) + count S k
+    go : (i ≡ k) ⊎ (i < k) → (i < k → suc (count (without S i) k) ≡ count S k) → suc (cond (without S i k) 1 0 + count (without S i) k) ≡ cond (S k) 1 0 + count S k
     go (inl e) f = omega (arith, bit-in (S k) (subst (λ (x : ℕ). T (S x)) e t), bit-out (without S i k) (goes e), count-same (without S i) S k (λ j l. stays j (λ q. omega arith)))
-    go (inr l) f = omega (arith, ap bit (stays k (λ q. omega arith)), f l)
+    go (inr l) f = omega (arith, ap {B = ℕ} (λ (b : Bool). cond b 1 0) (stays k (λ q. omega arith)), f l)

@@ -1,7 +1,7 @@
 -- The binary digits of masks. Assumes nothing.
 use mathlib.Core.Path.{_≡_, refl, sym, ap, _∙_}
 use mathlib.Core.Logic.{inl, inr}
-use mathlib.Core.Bool.{Bool, false, not, _&&_, _||_}
+use mathlib.Core.Bool.{Bool, false, not, cond, _&&_, _||_}
 use Prim.Native.Nat.{ℕ, zero, suc, _+_, _-_, _*_, _/_, _%_, _^_, _≤_, _<_, min, max}
 use native.Mathlib.Nat.{mod-lt, zero-div, zero-lt-suc, pow-suc}
 use native.Mathlib.Omega.{arith}
@@ -9,7 +9,6 @@ use lib.Dec.{T, T-not, eqb, ltb, eqb·zero-suc, eqb·suc-zero, eqb·suc-suc, ltb
 use lib.Arith.{digits-mod}
 use lib.Pow.{shr-shr}
 use lib.Bits.{bitAnd, bitOr, and-step, or-step, and-shr, or-shr}
-use Rattle.sets.specs.Sets.{bit}
 use Rattle.sets.specs.Mask.{has}
 use Rattle.sets.proofs.Tests.{either, eq→F}
 
@@ -26,9 +25,9 @@ pub has-suc : (m j : ℕ) → has m (suc j) ≡ has (m / 2) j
 unfolding has
 has-suc m j = ap (λ (x : ℕ). eqb (x % 2) 1) (ap (λ (x : ℕ). m / 2 ^ x) (let e : suc j ≡ 1 + j = omega arith in e) ∙ sym (shr-shr m 1 j))
 
-pub has-low : (m : ℕ) → bit (has m 0) ≡ m % 2
+pub has-low : (m : ℕ) → cond (has m 0) 1 0 ≡ m % 2
 unfolding has
-has-low m = digit-cases (λ (d : ℕ). bit (eqb d 1) ≡ d) refl refl (m / 2 ^ 0 % 2) (digit-lt (m / 2 ^ 0)) ∙ omega arith
+has-low m = digit-cases (λ (d : ℕ). cond (eqb d 1) 1 0 ≡ d) refl refl (m / 2 ^ 0 % 2) (digit-lt (m / 2 ^ 0)) ∙ omega arith
 
 pub has-zero : (j : ℕ) → has 0 j ≡ false
 unfolding has

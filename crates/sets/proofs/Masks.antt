@@ -1,7 +1,7 @@
 -- What the code's operations on masks do to the sets, and that a mask and its set are known by each other. Assumes nothing.
 use mathlib.Core.Path.{_≡_, refl, sym, ap, ap₂, subst, fun-ext, _∙_}
 use mathlib.Core.Logic.{_⊎_, inl, inr}
-use mathlib.Core.Bool.{Bool, true, false, not, _&&_, _||_}
+use mathlib.Core.Bool.{Bool, true, false, not, cond, _&&_, _||_}
 use Prim.Native.Nat.{ℕ, zero, suc, _+_, _-_, _*_, _/_, _%_, _^_, _≤_, _<_}
 use native.Mathlib.Nat.{one-mul, pow-suc, lt-of-lt-of-le}
 use native.Mathlib.Omega.{arith}
@@ -9,11 +9,11 @@ use lib.Dec.{T, eqb, ltb, lit<, ltb→lt, nltb→le}
 use lib.Pow.{shl-exact, pow-lt, pow-pos, pow-mono, ones-lt}
 use lib.Bits.{bitAnd, bitOr, or-lt}
 use lib.Count.{ones, ones-step}
-use Rattle.sets.specs.Sets.{Subset, first, joined, without, bit, count}
+use Rattle.sets.specs.Sets.{Subset, first, joined, without, count}
 use Rattle.sets.specs.Mask.{has, maskOf}
 use Rattle.sets.proofs.Tests.{either, T→eq, F→eq}
 use Rattle.sets.proofs.Belonging.{subset-ext}
-use Rattle.sets.proofs.Counting.{count-same}
+use Rattle.sets.proofs.Counting.{bit-le, count-same}
 use Rattle.sets.proofs.Digits.{has-suc, has-low, has-zero, has-below, has-beyond, has-and, has-or, has-pow, has-not}
 
 -- 1 << i, as the prover has it
@@ -46,7 +46,7 @@ has-first n = fun-ext (λ (j : ℕ). go j (either (ltb j n)))
 -- ---- the number of ones
 
 -- a count begun at the lowest
-count-low : (S : Subset) (n : ℕ) → count S (suc n) ≡ bit (S 0) + count (λ (j : ℕ). S (suc j)) n
+count-low : (S : Subset) (n : ℕ) → count S (suc n) ≡ cond (S 0) 1 0 + count (λ (j : ℕ). S (suc j)) n
 unfolding count
 count-low S zero = refl
 count-low S (suc n) = omega (arith, count-low S n)
@@ -63,10 +63,10 @@ pub count-within : (n m : ℕ) → m < 2 ^ n → n ≤ 32 → count (has m) 32 �
 count-within n m h l = sym (count-ones 32 m (lt-of-lt-of-le h (pow-mono l))) ∙ count-ones n m h
 
 -- ---- a mask of n digits is the mask of its set
-mask-low : (S : Subset) (n : ℕ) → maskOf S (suc n) ≡ bit (S 0) + 2 * maskOf (λ (j : ℕ). S (suc j)) n
+mask-low : (S : Subset) (n : ℕ) → maskOf S (suc n) ≡ cond (S 0) 1 0 + 2 * maskOf (λ (j : ℕ). S (suc j)) n
 unfolding maskOf
 mask-low S zero = omega arith
-mask-low S (suc n) = omega (arith, mask-low S n, ap (λ (x : ℕ). bit (S (suc n)) * x) (pow-suc 2 n))
+mask-low S (suc n) = omega (arith, mask-low S n, ap (λ (x : ℕ). cond (S (suc n)) 1 0 * x) (pow-suc 2 n))
 
 pub mask-same : (S R : Subset) (n : ℕ) → ((j : ℕ) → j < n → S j ≡ R j) → maskOf S n ≡ maskOf R n
 unfolding maskOf
@@ -82,15 +82,11 @@ mask-back (suc n) m h =
     ∙ omega arith
 
 -- ---- and the mask of a set of receptions below n has that set
-bit-same : (a b : Bool) → bit a ≡ bit b → a ≡ b
+bit-same : (a b : Bool) → _≡_ {A = ℕ} (cond a 1 0) (cond b 1 0) → a ≡ b
 bit-same true true e = refl
 bit-same true false e = absurd (omega arith)
 bit-same false true e = absurd (omega arith)
 bit-same false false e = refl
-
-bit-le : (b : Bool) → bit b ≤ 1
-bit-le true = omega arith
-bit-le false = omega arith
 
 has-mask : (S : Subset) (n j : ℕ) → j < n → has (maskOf S n) j ≡ S j
 has-mask S zero j h = absurd (omega arith)
@@ -104,7 +100,7 @@ unfolding maskOf
 mask-lt S zero = omega arith
 mask-lt S (suc n) = go (S n) (mask-lt S n)
   where
-    go : (b : Bool) → maskOf S n < 2 ^ n → bit b * 2 ^ n + maskOf S n < 2 ^ suc n
+    go : (b : Bool) → maskOf S n < 2 ^ n → cond b 1 0 * 2 ^ n + maskOf S n < 2 ^ suc n
     go true h = omega (arith, pow-suc 2 n)
     go false h = omega (arith, pow-suc 2 n)
 

@@ -1,5 +1,5 @@
 -- Sets of receptions. A set is a test on indices: `T (S i)` says that reception i is in S. Definitions only.
-use mathlib.Core.Bool.{Bool, true, false, not, cond, _&&_, _||_}
+use mathlib.Core.Bool.{Bool, not, cond, _&&_, _||_}
 use mathlib.Core.List.{List}
 use Prim.Native.Nat.{ℕ, zero, suc, _+_}
 use lib.Dec.{ltb, eqb}
@@ -20,17 +20,12 @@ joined S i j = S j || eqb j i
 unfoldable pub without : Subset → ℕ → Subset
 without S i j = S j && not (eqb j i)
 
-abbrev pub bit : Bool → ℕ
-bit true = 1
-bit false = 0
-
 -- how many of the receptions below n are in S
 unfoldable pub count : Subset → ℕ → ℕ
 count S zero = 0
-count S (suc k) = bit (S k) + count S k
+count S (suc k) = cond (S k) 1 0 + count S k
 
 -- `subset` of solve.rs: those of S below n, ascending, in the array index
 unfoldable pub membersTo : Subset → List ℕ → ℕ → List ℕ
-unfolding count
 membersTo S index zero = index
 membersTo S index (suc i) = let known = membersTo S index i in cond (S i) (set known (count S i) i) known
