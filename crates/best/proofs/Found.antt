@@ -19,9 +19,10 @@ use Rattle.damped.specs.declared.Fit.{Fit}
 use Rattle.damped.specs.Damped.{levenbergMarquardt}
 use Rattle.best.specs.declared.Unfit.{Unfit}
 use Rattle.best.specs.declared.Unfit.the-variants.{NoConvergence, OutOfRange, Ambiguous}
-use Rattle.best.specs.Plausible.{minHeightM, maxHeightM, maxRangeM, range, flying, nearTo, plausible}
-use Rattle.best.specs.Best.{gives, fails, nothing, fitAt, converged, weighed, rival, rivals, bestOf, judged, best}
-use Rattle.best.specs.Meaning.{fitFrom, Plausible, IsBest, FoundIsBest, NoneConverges, NonePlausible}
+use Rattle.best.specs.Plausible.{minHeightM, maxHeightM, maxRangeM, range, nearTo, plausible}
+use Rattle.best.specs.Best.{gives, fails, fitAt, any, weighed, rival, bestOf, judged, best}
+use Rattle.best.specs.Meaning.{fitFrom, Plausible, IsBest, Answered}
+use Rattle.best.proofs.Passes.{nothing}
 use Rattle.best.proofs.Cost.{cost-number}
 use Rattle.best.proofs.Cheapest.{Cheapest, cheapest-of, none-of}
 
@@ -36,7 +37,7 @@ near-at sites x (suc k) h j l = elim (lt-suc-cases j k l) [
 
 module _ (C : Chosen) (starts : List (List Float)) where
   plausible-is : (fit : Fit) → T (plausible (C .sites) (C .k) (fit .params)) → Plausible C fit
-  unfolding plausible flying
+  unfolding plausible
   plausible-is fit h =
       let x : List Float = position (fit .params) in
       let height : Float = fromEcef x .«height_m» in
@@ -89,7 +90,7 @@ module _ (C : Chosen) (starts : List (List Float)) where
   none-below S h j l = not-T (S j) (λ t. T-not (ltb 0 (count S (length fits))) h (lt→ltb 0 (count S (length fits)) (count-pos S (length fits) j l t)))
 
   -- the i-th is chosen, and has no rival
-  module _ (i : ℕ) (c : chosenBest ≡ some i) (fit : Fit) (f : fitAt fits i ≡ fit) (r : T (not (ltb 0 (rivals (C .sites) (C .k) fits (fitAt fits i))))) where
+  module _ (i : ℕ) (c : chosenBest ≡ some i) (fit : Fit) (f : fitAt fits i ≡ fit) (r : T (not (any (rival (C .sites) (C .k) (fitAt fits i)) fits))) where
     cheap : Cheapest (λ j. used (fitAt fits j)) (λ j. fitAt fits j .cost) number (length fits) i
     cheap = cheapest-of (λ j. used (fitAt fits j)) (λ j. fitAt fits j .cost) number (length fits) i c
 
@@ -117,26 +118,23 @@ module _ (C : Chosen) (starts : List (List Float)) where
       alone = λ j l. of-starts (λ x y. T (not (rival (C .sites) (C .k) x y))) j l (none-below (λ m. rival (C .sites) (C .k) (fitAt fits i) (fitAt fits m)) r j (listed-back j l));
     }
 
-  found-best : (fit : Fit) → best C starts ≡ gives fit → (i : ℕ) × IsBest C starts fit i
+  pub found-is-best : (fit : Fit) → best C starts ≡ gives fit → (i : ℕ) × IsBest C starts fit i
   unfolding best
-  found-best fit e = go chosenBest refl e
+  found-is-best fit e = go chosenBest refl e
     where
-      alone : (b : Bool) (i : ℕ) → chosenBest ≡ some i → ltb 0 (rivals (C .sites) (C .k) fits (fitAt fits i)) ≡ b → cond b (fails Ambiguous) (gives (fitAt fits i)) ≡ gives fit → IsBest C starts fit i
+      alone : (b : Bool) (i : ℕ) → chosenBest ≡ some i → any (rival (C .sites) (C .k) (fitAt fits i)) fits ≡ b → cond b (fails Ambiguous) (gives (fitAt fits i)) ≡ gives fit → IsBest C starts fit i
       alone true i c r q = absurd (let z : _≡_ {A = ℕ} 0 1 = cc in omega arith)
       alone false i c r q = is-best i c fit (cc) (subst (λ (x : Bool). T (not x)) (sym r) tt)
 
       go : (o : Option ℕ) → chosenBest ≡ o → judged (C .sites) (C .k) fits o ≡ gives fit → (i : ℕ) × IsBest C starts fit i
       go none c q = absurd (let z : _≡_ {A = ℕ} 0 1 = cc in omega arith)
-      go (some i) c q = (i, alone (ltb 0 (rivals (C .sites) (C .k) fits (fitAt fits i))) i c refl q)
-
-pub found-is-best : FoundIsBest
-found-is-best C starts fit e = found-best C starts fit e
+      go (some i) c q = (i, alone (any (rival (C .sites) (C .k) (fitAt fits i)) fits) i c refl q)
 
 -- ---- the refusals
 
 -- what the judgement gives where there is no rivalry to speak of: u is no fit, and not for a rival
 module _ (C : Chosen) (starts : List (List Float)) (u : Unfit) (notAmbiguous : Ambiguous ≡ u → ⊥) where
-  none-chosen : best C starts ≡ fails u → (chosenBest C starts ≡ none) × (cond (ltb 0 (converged (fits C starts))) OutOfRange NoConvergence ≡ u)
+  none-chosen : best C starts ≡ fails u → (chosenBest C starts ≡ none) × (cond (any (λ fit. fit .ok) (fits C starts)) OutOfRange NoConvergence ≡ u)
   unfolding best
   none-chosen e = go (chosenBest C starts) refl e
     where
@@ -144,32 +142,38 @@ module _ (C : Chosen) (starts : List (List Float)) (u : Unfit) (notAmbiguous : A
       judged-so true f q = notAmbiguous (cc)
       judged-so false f q = let z : _≡_ {A = ℕ} 0 1 = cc in omega arith
 
-      go : (o : Option ℕ) → chosenBest C starts ≡ o → judged (C .sites) (C .k) (fits C starts) o ≡ fails u → (chosenBest C starts ≡ none) × (cond (ltb 0 (converged (fits C starts))) OutOfRange NoConvergence ≡ u)
+      go : (o : Option ℕ) → chosenBest C starts ≡ o → judged (C .sites) (C .k) (fits C starts) o ≡ fails u → (chosenBest C starts ≡ none) × (cond (any (λ fit. fit .ok) (fits C starts)) OutOfRange NoConvergence ≡ u)
       go none c q = (c, cc)
-      go (some i) c q = absurd (judged-so (ltb 0 (rivals (C .sites) (C .k) (fits C starts) (fitAt (fits C starts) i))) (fitAt (fits C starts) i) q)
+      go (some i) c q = absurd (judged-so (any (rival (C .sites) (C .k) (fitAt (fits C starts) i)) (fits C starts)) (fitAt (fits C starts) i) q)
 
-pub none-converges : NoneConverges
-none-converges C starts e j l = go (ltb 0 (converged (fits C starts))) refl (none-chosen C starts NoConvergence (λ q. let z : _≡_ {A = ℕ} 0 1 = cc in omega arith) e .1)
-  where
-    go : (b : Bool) → ltb 0 (converged (fits C starts)) ≡ b → cond b OutOfRange NoConvergence ≡ NoConvergence → T (not (fitFrom C starts j .ok))
-    go true r q = absurd (let z : _≡_ {A = ℕ} 0 1 = cc in omega arith)
-    go false r q =
-        subst (λ (x : Fit). T (not (x .ok))) (at-start C starts j l)
-        (none-below C starts (λ i. fitAt (fits C starts) i .ok) (subst (λ (x : Bool). T (not x)) (sym r) tt) j (listed-back C starts j l))
+module _ (C : Chosen) (starts : List (List Float)) where
+  none-converges : best C starts ≡ fails NoConvergence → (j : ℕ) → j < length starts → T (not (fitFrom C starts j .ok))
+  none-converges e j l = go (any (λ fit. fit .ok) (fits C starts)) refl (none-chosen C starts NoConvergence (λ q. let z : _≡_ {A = ℕ} 0 1 = cc in omega arith) e .1)
+    where
+      go : (b : Bool) → any (λ fit. fit .ok) (fits C starts) ≡ b → cond b OutOfRange NoConvergence ≡ NoConvergence → T (not (fitFrom C starts j .ok))
+      go true r q = absurd (let z : _≡_ {A = ℕ} 0 1 = cc in omega arith)
+      go false r q =
+          subst (λ (x : Fit). T (not (x .ok))) (at-start C starts j l)
+          (none-below C starts (λ i. fitAt (fits C starts) i .ok) (subst (λ (x : Bool). T (not x)) (sym r) tt) j (listed-back C starts j l))
 
-pub none-plausible : NonePlausible
-none-plausible C starts e = (
-  go (ltb 0 (converged (fits C starts))) refl (both .1),
-  λ j l. subst (λ (x : Fit). T (not (weighed (C .sites) (C .k) x))) (at-start C starts j l)
-      (none-of (λ i. weighed (C .sites) (C .k) (fitAt (fits C starts) i)) (λ i. fitAt (fits C starts) i .cost) (number C starts) (length (fits C starts)) (both .0) j (listed-back C starts j l)),
-)
-  where
-    both : (chosenBest C starts ≡ none) × (cond (ltb 0 (converged (fits C starts))) OutOfRange NoConvergence ≡ OutOfRange)
+  module _ (e : best C starts ≡ fails OutOfRange) where
+    both : (chosenBest C starts ≡ none) × (cond (any (λ fit. fit .ok) (fits C starts)) OutOfRange NoConvergence ≡ OutOfRange)
     both = none-chosen C starts OutOfRange (λ q. let z : _≡_ {A = ℕ} 0 1 = cc in omega arith) e
 
-    go : (b : Bool) → ltb 0 (converged (fits C starts)) ≡ b → cond b OutOfRange NoConvergence ≡ OutOfRange → (i : ℕ) × (i < length starts) × T (fitFrom C starts i .ok)
-    go true r q =
-        let w = count-some (λ i. fitAt (fits C starts) i .ok) (length (fits C starts)) (ltb→lt 0 (converged (fits C starts)) (eq→T r)) in
-        let h = listed C starts (w .0) (w .1) in
-        (w .0, h, subst (λ (x : Fit). T (x .ok)) (at-start C starts (w .0) h) (w .2))
-    go false r q = absurd (let z : _≡_ {A = ℕ} 0 1 = cc in omega arith)
+    some-converges : (i : ℕ) × (i < length starts) × T (fitFrom C starts i .ok)
+    some-converges = go (any (λ fit. fit .ok) (fits C starts)) refl (both .1)
+      where
+        go : (b : Bool) → any (λ fit. fit .ok) (fits C starts) ≡ b → cond b OutOfRange NoConvergence ≡ OutOfRange → (i : ℕ) × (i < length starts) × T (fitFrom C starts i .ok)
+        go true r q =
+            let w = count-some (λ i. fitAt (fits C starts) i .ok) (length (fits C starts)) (ltb→lt 0 (count (λ i. fitAt (fits C starts) i .ok) (length (fits C starts))) (eq→T r)) in
+            let h = listed C starts (w .0) (w .1) in
+            (w .0, h, subst (λ (x : Fit). T (x .ok)) (at-start C starts (w .0) h) (w .2))
+        go false r q = absurd (let z : _≡_ {A = ℕ} 0 1 = cc in omega arith)
+
+    none-plausible : (j : ℕ) → j < length starts → T (not (weighed (C .sites) (C .k) (fitFrom C starts j)))
+    none-plausible j l =
+        subst (λ (x : Fit). T (not (weighed (C .sites) (C .k) x))) (at-start C starts j l)
+        (none-of (λ i. weighed (C .sites) (C .k) (fitAt (fits C starts) i)) (λ i. fitAt (fits C starts) i .cost) (number C starts) (length (fits C starts)) (both .0) j (listed-back C starts j l))
+
+  pub answered : Answered C starts
+  answered = record { found = found-is-best C starts; noneConverges = none-converges; someConverges = some-converges; nonePlausible = none-plausible }

@@ -20,7 +20,7 @@ use Rattle.damped.specs.declared.Fit.{Fit}
 use Rattle.damped.specs.Damped.{levenbergMarquardt}
 use Rattle.best.specs.declared.Unfit.{Unfit}
 use Rattle.best.specs.declared.Unfit.the-variants.{NoConvergence, OutOfRange, Ambiguous, Singular}
-use Rattle.best.specs.Best.{Outcome, gives, fails, costlier, apart, fitAt, cheaper, converged, weighed, rivals, bestOf, judged, best, whitened, bestFit}
+use Rattle.best.specs.Best.{Outcome, gives, fails, explainsAlike, fitAt, cheaper, any, weighed, rival, bestOf, judged, best, whitened, bestFit}
 
 -- what the code holds of the fits: how many they are, the set S of those that are weighed, and the index of the best, which is 32 for none
 pub record Held (sites : List Float) (k : ℕ) (fits : List Fit) (n top : ℕ) (S : Subset) : Type 0 where
@@ -45,11 +45,11 @@ module _ {sites : List Float} {k : ℕ} {fits : List Fit} {n top : ℕ} {S : Sub
   pub below : top < 32 → top < n
   below h = chosen-below S (cheaper fits) n top (held .few) (held .index) h
 
-  module _ (r : Bool) (h : top < 32) (fit : Fit) (f : fit ≡ fitAt fits top) (e : r ≡ ltb 0 (count (λ i. S i && (not (costlier fit (fitAt fits i)) && apart fit (fitAt fits i))) n)) where
-    rivalled : r ≡ ltb 0 (rivals sites k fits (fitAt fits top))
+  module _ (r : Bool) (h : top < 32) (fit : Fit) (f : fit ≡ fitAt fits top) (e : r ≡ ltb 0 (count (λ i. S i && explainsAlike fit (fitAt fits i)) n)) where
+    rivalled : r ≡ any (rival sites k (fitAt fits top)) fits
     rivalled =
-        e ∙ ap₂ (λ (R : Subset) (m : ℕ). ltb 0 (count (λ i. R i && (not (costlier fit (fitAt fits i)) && apart fit (fitAt fits i))) m)) (held .set) (sym (held .all))
-        ∙ ap (λ (x : Fit). ltb 0 (rivals sites k fits x)) f
+        e ∙ ap₂ (λ (R : Subset) (m : ℕ). ltb 0 (count (λ i. R i && explainsAlike fit (fitAt fits i)) m)) (held .set) (sym (held .all))
+        ∙ ap (λ (x : Fit). any (rival sites k x) fits) f
 
     pub ambiguous : r ≡ true → fails Ambiguous ≡ answer
     ambiguous g = rw (some-is h, ← rivalled, g)
@@ -57,7 +57,7 @@ module _ {sites : List Float} {k : ℕ} {fits : List Fit} {n top : ℕ} {S : Sub
     pub alone : r ≡ false → gives fit ≡ answer
     alone g = rw (some-is h, ← rivalled, g) (ap gives f)
 
-  module _ (r : Bool) (h : 32 ≤ top) (e : r ≡ ltb 0 (converged fits)) where
+  module _ (r : Bool) (h : 32 ≤ top) (e : r ≡ any (λ fit. fit .ok) fits) where
     pub out-of-range : r ≡ true → fails OutOfRange ≡ answer
     out-of-range g = rw (none-is h, ← e, g)
 

@@ -41,5 +41,5 @@ module _ (R : Receptions) (S : Subset) (previous : Option (List Float)) (fit : F
           (l, b .0, record { whitens = w; best = b .1; near = near-over l (b .0) (b .1) })
       go (factor.refused l) w q = absurd (let z : _≡_ {A = ℕ} 0 1 = cc in omega arith)
 
-pub found-is-best-over : FoundIsBestOver
+pub found-is-best-over : (R : Receptions) (S : Subset) (previous : Option (List Float)) → FoundIsBestOver R S previous
 found-is-best-over R S previous fit n e = best-over R S previous fit n e

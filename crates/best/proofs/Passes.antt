@@ -19,7 +19,11 @@ use Rattle.sets.proofs.Digits.{has-zero}
 use Rattle.sets.proofs.Choosing.{choice-turn}
 use Rattle.damped.specs.declared.Fit.{Fit}
 use Rattle.starts.specs.Points.{point}
-use Rattle.best.specs.Best.{nothing, fitAt, cheaper, pointsTo}
+use Rattle.best.specs.Best.{fitAt, cheaper, pointsTo}
+
+-- what lies past the last of a list of fits
+abbrev pub nothing : Fit
+nothing = fitAt [] 0
 
 or-true : (a : Bool) → (a || true) ≡ true
 or-true true = refl

@@ -34,34 +34,27 @@ pub data Outcome (E A : Type 0) : Type 0 where
 abbrev pub told : Best → Outcome Unfit Fit
 told r = cond (r .found) (gives (r .fit)) (fails (r .why))
 
--- `other.cost > best.cost + AMBIGUOUS_COST`, which is 9. Document 01: "Cost equal to best plus 9 is still weighed".
-abbrev pub costlier : Fit → Fit → Bool
-costlier best other = lt (best .cost ⊕ decimal 9 0) (other .cost)
-
 -- "squared Mahalanobis distance of the four parameters under the best's information": delta · (information delta)
 unfoldable pub distance : Fit → Fit → Float
 distance best other =
     let delta = four (λ i. nth (other .params) i ⊖ nth (best .params) i) in
     dots (nth delta) (nth (mulVec (best .information) 4 delta (replicate 4 nought))) 4
 
--- "outside the best's own 10^-6 ellipsoid": `distance > limit`
-abbrev pub apart : Fit → Fit → Bool
-apart best other = lt (chi2Limit 4) (distance best other)
+-- not `other.cost > best.cost + AMBIGUOUS_COST`, which is 9, and "outside the best's own 10^-6 ellipsoid": `distance > limit`. Document 01: "Cost equal to best plus 9 is still weighed".
+abbrev pub explainsAlike : Fit → Fit → Bool
+explainsAlike best other = not (lt (best .cost ⊕ decimal 9 0) (other .cost)) && lt (chi2Limit 4) (distance best other)
 
--- no fit, which is what lies past the last of a list
-abbrev pub nothing : Fit
-nothing = record { ok = false; params = []; cost = nan; information = [] }
-
+-- the i-th, and no fit past the last of them
 abbrev pub fitAt : List Fit → ℕ → Fit
-fitAt fits i = getD fits i nothing
+fitAt fits i = getD fits i (record { ok = false; params = []; cost = nan; information = [] })
 
 -- the i-th replaces the top, unless its cost is at least the top's: `fits[index].cost >= fits[top].cost`
 abbrev pub cheaper : List Fit → ℕ → ℕ → Bool
 cheaper fits i top = not (le (fitAt fits top .cost) (fitAt fits i .cost))
 
--- how many converged
-abbrev pub converged : List Fit → ℕ
-converged fits = count (λ i. fitAt fits i .ok) (length fits)
+-- whether one of them passes a test
+abbrev pub any : (Fit → Bool) → List Fit → Bool
+any p fits = ltb 0 (count (λ i. p (fitAt fits i)) (length fits))
 
 -- with the k sites of the receptions used
 module _ (sites : List Float) (k : ℕ) where
@@ -71,27 +64,20 @@ module _ (sites : List Float) (k : ℕ) where
 
   -- Document 01: "A rival is a fit .. that converged, costs at most the best fit's cost plus 9 and meets the other tests by which `best_fit` answers 8."
   abbrev pub rival : Fit → Fit → Bool
-  rival best other = weighed other && (not (costlier best other) && apart best other)
+  rival best other = weighed other && explainsAlike best other
 
-  module _ (fits : List Fit) where
-    -- the `fold`: "the lowest cost, ties to the earlier start"
-    abbrev pub bestOf : Option ℕ
-    bestOf = choose (λ i. weighed (fitAt fits i)) (cheaper fits) (length fits)
+  -- the `fold`: "the lowest cost, ties to the earlier start"
+  abbrev pub bestOf : List Fit → Option ℕ
+  bestOf fits = choose (λ i. weighed (fitAt fits i)) (cheaper fits) (length fits)
 
-    -- how many rivals a fit has among them
-    abbrev pub rivals : Fit → ℕ
-    rivals best = count (λ i. rival best (fitAt fits i)) (length fits)
-
-    -- what `best_fit` makes of them
-    abbrev pub judged : Option ℕ → Outcome Unfit Fit
-    judged none = fails (cond (ltb 0 (converged fits)) OutOfRange NoConvergence)
-    judged (some i) = cond (ltb 0 (rivals (fitAt fits i))) (fails Ambiguous) (gives (fitAt fits i))
+  -- what `best_fit` makes of them
+  abbrev pub judged : List Fit → Option ℕ → Outcome Unfit Fit
+  judged fits none = fails (cond (any (λ fit. fit .ok) fits) OutOfRange NoConvergence)
+  judged fits (some i) = cond (any (rival (fitAt fits i)) fits) (fails Ambiguous) (gives (fitAt fits i))
 
 -- the best fit from a list of starts
 unfoldable pub best : Chosen → List (List Float) → Outcome Unfit Fit
-best C starts =
-    let fits = map (levenbergMarquardt C) starts in
-    judged (C .sites) (C .k) fits (bestOf (C .sites) (C .k) fits)
+best C starts = let fits = map (levenbergMarquardt C) starts in judged (C .sites) (C .k) fits (bestOf (C .sites) (C .k) fits)
 
 -- `whitener(subset).ok_or(SolveError::Singular)?` comes before the fits
 abbrev pub whitened : factor.Factor → (List Float → Outcome Unfit Fit) → Outcome Unfit Fit

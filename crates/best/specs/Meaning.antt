@@ -49,30 +49,21 @@ module _ (C : Chosen) (starts : List (List Float)) where
     pub earliest : (j : ℕ) → j < i → T (weighed (C .sites) (C .k) (fitFrom j)) → T (lt (fit .cost) (fitFrom j .cost))
     pub alone : NoRival fit
 
--- a best fit that is found is that
-abbrev pub FoundIsBest : Type 0
-FoundIsBest = (C : Chosen) (starts : List (List Float)) (fit : Fit) → best C starts ≡ gives fit → (i : ℕ) × IsBest C starts fit i
+  -- what `best` answers of them: a fit that it gives is the best; "no start converges"; "some converge, none plausible"
+  pub record Answered : Type 0 where
+    pub found : (fit : Fit) → best C starts ≡ gives fit → (i : ℕ) × IsBest fit i
+    pub noneConverges : best C starts ≡ fails NoConvergence → (j : ℕ) → j < length starts → T (not (fitFrom j .ok))
+    pub someConverges : best C starts ≡ fails OutOfRange → (i : ℕ) × (i < length starts) × T (fitFrom i .ok)
+    pub nonePlausible : best C starts ≡ fails OutOfRange → (j : ℕ) → j < length starts → T (not (weighed (C .sites) (C .k) (fitFrom j)))
 
--- "no start converges"
-abbrev pub NoneConverges : Type 0
-NoneConverges = (C : Chosen) (starts : List (List Float)) → best C starts ≡ fails NoConvergence → (j : ℕ) → j < length starts → T (not (fitFrom C starts j .ok))
+-- over a set S of the receptions R, after a round that found the parameters `previous`
+module _ (R : Receptions) (S : Subset) (previous : Option (List Float)) where
+  -- the fit from the i-th of the round's starts is the best, and each reception of S is within its range; l whitens the receptions
+  pub record IsBestOver (fit : Fit) (l : List Float) (i : ℕ) : Type 0 where
+    pub whitens : whitenerOver R S ≡ factor.found l
+    pub best : IsBest (chosenOver R S l) (startsOver R S previous) fit i
+    pub near : (j : ℕ) → j < R .n → T (S j) → T (le (range (R .site) (position (fit .params)) j) maxRangeM)
 
--- "some converge, none plausible"
-abbrev pub NonePlausible : Type 0
-NonePlausible =
-    (C : Chosen) (starts : List (List Float)) → best C starts ≡ fails OutOfRange
-    → ((i : ℕ) × (i < length starts) × T (fitFrom C starts i .ok)) × ((j : ℕ) → j < length starts → T (not (weighed (C .sites) (C .k) (fitFrom C starts j))))
-
--- ---- over a set S of the receptions R, after a round that found the parameters `previous`
-
--- the fit from the i-th of the round's starts is the best, and each reception of S is within its range; l whitens the receptions
-pub record IsBestOver (R : Receptions) (S : Subset) (previous : Option (List Float)) (fit : Fit) (l : List Float) (i : ℕ) : Type 0 where
-  pub whitens : whitenerOver R S ≡ factor.found l
-  pub best : IsBest (chosenOver R S l) (startsOver R S previous) fit i
-  pub near : (j : ℕ) → j < R .n → T (S j) → T (le (range (R .site) (position (fit .params)) j) maxRangeM)
-
--- a round's best fit is that
-abbrev pub FoundIsBestOver : Type 0
-FoundIsBestOver =
-    (R : Receptions) (S : Subset) (previous : Option (List Float)) (fit : Fit) → R .n ≤ 32 → bestFitOver R S previous ≡ gives fit
-    → (l : List Float) × (i : ℕ) × IsBestOver R S previous fit l i
+  -- a round's best fit is that
+  abbrev pub FoundIsBestOver : Type 0
+  FoundIsBestOver = (fit : Fit) → R .n ≤ 32 → bestFitOver R S previous ≡ gives fit → (l : List Float) × (i : ℕ) × IsBestOver fit l i

@@ -22,15 +22,11 @@ maxRangeM = decimal 600000 0
 abbrev pub range : List Float → List Float → ℕ → Float
 range sites x i = norm (sub x (siteAt sites i))
 
--- `(MIN_HEIGHT_M..=MAX_HEIGHT_M).contains(&height)`. Document 01: "A fit whose height is not a number is not plausible".
-unfoldable pub flying : Float → Bool
-flying height = le minHeightM height && le height maxHeightM
-
 -- the `all` over the sites, after i of them. Document 01: "Range exactly 600,000 passes."
 unfoldable pub nearTo : List Float → List Float → ℕ → Bool
 nearTo sites x zero = true
 nearTo sites x (suc i) = nearTo sites x i && le (range sites x i) maxRangeM
 
--- `plausible`, with k sites
+-- `plausible`, with k sites: `(MIN_HEIGHT_M..=MAX_HEIGHT_M).contains(&height)`, and all are near. Document 01: "A fit whose height is not a number is not plausible".
 unfoldable pub plausible : List Float → ℕ → List Float → Bool
-plausible sites k params = let x = position params in flying (fromEcef x .«height_m») && nearTo sites x k
+plausible sites k params = let x = position params in let height = fromEcef x .«height_m» in (le minHeightM height && le height maxHeightM) && nearTo sites x k

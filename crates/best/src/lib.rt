@@ -7,14 +7,15 @@ ghost use Prim.Native.Nat.{ℕ, _<_, _≤_};
 ghost use lib.Dec.{ltb, leb};
 ghost use lib.ListN.{take, length};
 ghost use lib.Ieee.{le, lt};
+ghost use Rattle.binary64.specs.Steps.{_⊕_, decimal};
 ghost use Rattle.sets.specs.Sets as sets;
 ghost use Rattle.sets.specs.Mask.{has};
 ghost use Rattle.sets.specs.Choice.{choose, indexOf};
 ghost use Rattle.problem.specs.Gathered.{pick};
 ghost use Rattle.whitening.specs.Whitened.{chosen};
 ghost use Rattle.damped.specs.Damped.{unfitted, levenbergMarquardt};
-ghost use Rattle.best.specs.Plausible.{maxRangeM, range, flying, nearTo, plausible};
-ghost use Rattle.best.specs.Best.{fails, told, costlier, distance, apart, fitAt, cheaper, converged, weighed, bestOf, judged, pointsTo, bestFit};
+ghost use Rattle.best.specs.Plausible.{minHeightM, maxHeightM, maxRangeM, range, nearTo, plausible};
+ghost use Rattle.best.specs.Best.{fails, told, distance, explainsAlike, fitAt, cheaper, any, weighed, bestOf, judged, pointsTo, bestFit};
 use damped::Fit;
 use linalg::Cholesky;
 use problem::Altitude;
@@ -81,7 +82,7 @@ fn all_near(sites: &[f64; 96], k: usize, x: [f64; 3]) -> bool
 
 // False of a not-a-number.
 fn flying(height: f64) -> bool
-    ensures { λ r. ⌜ r ≡ flying height ⌝ }
+    ensures { λ r. ⌜ r ≡ (le minHeightM height && le height maxHeightM) ⌝ }
 {
     both(MIN_HEIGHT_M <= height, height <= MAX_HEIGHT_M)
 }
@@ -197,7 +198,7 @@ fn best_of(fits: [Fit; 18], mask: u32, count: usize) -> usize
 // Whether one of the fits converged.
 fn converged(fits: [Fit; 18], count: usize) -> bool
     requires { ⌜ count ≤ 18 ⌝ }
-    ensures { λ r. ⌜ r ≡ ltb 0 (converged (take count fits)) ⌝ }
+    ensures { λ r. ⌜ r ≡ any (λ fit. fit .ok) (take count fits) ⌝ }
 {
     let mut so_far = false;
     for i in 0..count {
@@ -222,7 +223,7 @@ fn distance(best: Fit, other: Fit) -> f64
 // Whether a weighed fit is a rival of the best: it costs at most so much more, and lies outside the
 // limit.
 fn rival(best: Fit, other: Fit, limit: f64) -> bool
-    ensures { λ r. ⌜ r ≡ (not (costlier best other) && lt limit (distance best other)) ⌝ }
+    ensures { λ r. ⌜ r ≡ (not (lt (best .cost ⊕ decimal 9 0) (other .cost)) && lt limit (distance best other)) ⌝ }
 {
     if other.cost > best.cost + AMBIGUOUS_COST {
         return false;
@@ -233,7 +234,7 @@ fn rival(best: Fit, other: Fit, limit: f64) -> bool
 // Whether one of the fits in the mask is a rival of the best.
 fn rivalled(fits: [Fit; 18], mask: u32, best: Fit, count: usize) -> bool
     requires { ⌜ count ≤ 18 ⌝ }
-    ensures { λ r. ⌜ r ≡ ltb 0 (sets.count (λ i. has mask i && (not (costlier best (fitAt (take count fits) i)) && apart best (fitAt (take count fits) i))) count) ⌝ }
+    ensures { λ r. ⌜ r ≡ ltb 0 (sets.count (λ i. has mask i && explainsAlike best (fitAt (take count fits) i)) count) ⌝ }
 {
     let limit = limits::chi2_limit(4);
     let mut so_far = false;

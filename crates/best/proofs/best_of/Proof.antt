@@ -11,8 +11,8 @@ use lib.Seq.{getD-take}
 use lib.Ieee.{le}
 use Rattle.sets.specs.Mask.{has}
 use Rattle.damped.specs.declared.Fit.{Fit}
-use Rattle.best.specs.Best.{nothing, fitAt}
-use Rattle.best.proofs.Passes.{Top, top-start, top-taken, top-left}
+use Rattle.best.specs.Best.{fitAt}
+use Rattle.best.proofs.Passes.{nothing, Top, top-start, top-taken, top-left}
 use Rattle.best.proofs.best_of.Statement.{statement}
 use Rattle.best.proofs.best_of.Tie as tie
 

@@ -8,8 +8,8 @@ use lib.ListN.{length, take}
 use lib.Seq.{length-take-le, getD-take}
 use Rattle.sets.specs.Sets as sets
 use Rattle.damped.specs.declared.Fit.{Fit}
-use Rattle.best.specs.Best.{nothing, fitAt}
-use Rattle.best.proofs.Passes.{any-next}
+use Rattle.best.specs.Best.{fitAt}
+use Rattle.best.proofs.Passes.{nothing, any-next}
 use Rattle.best.proofs.converged.Statement.{statement}
 use Rattle.best.proofs.converged.Tie as tie
 

@@ -8,7 +8,8 @@ use lib.ListN.{length, take}
 use lib.Seq.{length-take-le, getD-take}
 use Rattle.sets.specs.Mask.{has}
 use Rattle.damped.specs.declared.Fit.{Fit}
-use Rattle.best.specs.Best.{nothing, fitAt}
+use Rattle.best.specs.Best.{fitAt}
+use Rattle.best.proofs.Passes.{nothing}
 use Rattle.best.proofs.Judging.{Held, below, ambiguous, alone, out-of-range, no-convergence}
 use Rattle.best.proofs.judged.Statement.{statement}
 use Rattle.best.proofs.judged.Tie as tie

@@ -8,16 +8,17 @@ use lib.Dec.{ltb}
 use lib.ListN.{take}
 use lib.Seq.{getD-take}
 use lib.Ieee.{Float, lt}
+use Rattle.binary64.specs.Steps.{_⊕_, decimal}
 use Rattle.sets.specs.Sets as sets
 use Rattle.sets.specs.Mask.{has}
 use Rattle.damped.specs.declared.Fit.{Fit}
-use Rattle.best.specs.Best.{costlier, apart, distance, nothing, fitAt}
-use Rattle.best.proofs.Passes.{any-next}
+use Rattle.best.specs.Best.{distance, explainsAlike, fitAt}
+use Rattle.best.proofs.Passes.{nothing, any-next}
 use Rattle.best.proofs.rivalled.Statement.{statement}
 use Rattle.best.proofs.rivalled.Tie as tie
 
 abbrev Inv-loop : tie.InvT-loop
-Inv-loop mask best count fits limit so-far₀ i₀ so-far i = (i ≤ count) × (so-far ≡ ltb 0 (sets.count (λ j. has mask j && (not (costlier best (fitAt (take count fits) j)) && apart best (fitAt (take count fits) j))) i))
+Inv-loop mask best count fits limit so-far₀ i₀ so-far i = (i ≤ count) × (so-far ≡ ltb 0 (sets.count (λ j. has mask j && explainsAlike best (fitAt (take count fits) j)) i))
 
 abbrev μ-loop : tie.MeasureT-loop
 μ-loop mask best count fits limit so-far₀ i₀ so-far i = count - i
@@ -59,15 +60,15 @@ loop-again c =
     let at = c .before .before .before .before .before .before .loop in
     let fs = take (s .count) (s .t1) in
     let same = sym (getD-take (s .count) (s .t1) (at .i) nothing (omega arith)) in
-    let rivalry = c .before .before .rival .ensures ∙ ap₂ (λ (f : Fit) (limit : Float). not (costlier (s .best) f) && lt limit (distance (s .best) f)) same (c .before .before .before .before .before .before .before .chi2-limit .ensures) in
-    (omega arith, any-next (λ j. has (s .mask) j && (not (costlier (s .best) (fitAt fs j)) && apart (s .best) (fitAt fs j))) (at .i) _ _ _ (at .inv .1) (c .before .both .ensures ∙ ap₂ (λ (a b : Bool). a && b) (c .before .before .before .has .ensures) rivalry) (c .either .ensures))
+    let rivalry = c .before .before .rival .ensures ∙ ap₂ (λ (f : Fit) (limit : Float). not (lt (s .best .cost ⊕ decimal 9 0) (f .cost)) && lt limit (distance (s .best) f)) same (c .before .before .before .before .before .before .before .chi2-limit .ensures) in
+    (omega arith, any-next (λ j. has (s .mask) j && explainsAlike (s .best) (fitAt fs j)) (at .i) _ _ _ (at .inv .1) (c .before .both .ensures ∙ ap₂ (λ (a b : Bool). a && b) (c .before .before .before .has .ensures) rivalry) (c .either .ensures))
 
 returns : tie.Need-returns Inv-loop μ-loop
 returns c =
     let s = c .before .before .before .args in
     let fs = take (s .count) (s .t1) in
     let e : c .before .loop .i ≡ s .count = omega arith in
-    c .before .loop .inv .1 ∙ ap (λ (m : ℕ). ltb 0 (sets.count (λ j. has (s .mask) j && (not (costlier (s .best) (fitAt fs j)) && apart (s .best) (fitAt fs j))) m)) e
+    c .before .loop .inv .1 ∙ ap (λ (m : ℕ). ltb 0 (sets.count (λ j. has (s .mask) j && explainsAlike (s .best) (fitAt fs j)) m)) e
 
 pub rivalled-spec : {M : Type 1} → statement M
 rivalled-spec =
