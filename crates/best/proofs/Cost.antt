@@ -21,7 +21,6 @@ use Rattle.damped.specs.declared.Lm.{Lm}
 use Rattle.damped.specs.declared.Stepped.{Stepped}
 use Rattle.damped.specs.declared.Verdict.the-variants.{Accepted, Converged, Rejected, Stopped, Failed}
 use Rattle.damped.specs.Damped.{dampedTo, solved, descent, moved, below, small, better, accepted, rejected, step, fitted, unfitted, plain, after, run, started, levenbergMarquardt}
-use Rattle.best.specs.Meaning.{CostIsNumber}
 
 -- ---- sums of squares
 
@@ -186,6 +185,6 @@ unfolding run
 run-number C zero s f = plain-number s f
 run-number C (suc n) s f = step-goes C n (run-number C n) s f
 
-pub cost-number : CostIsNumber
+pub cost-number : (C : Chosen) (start : List Float) → T (levenbergMarquardt C start .ok) → T (not (isNan (levenbergMarquardt C start .cost)))
 unfolding levenbergMarquardt
 cost-number C start = run-number C 50 (started start (evaluated C start)) (evaluated-fine C start)

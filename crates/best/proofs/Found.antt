@@ -176,4 +176,4 @@ module _ (C : Chosen) (starts : List (List Float)) where
         (none-of (λ i. weighed (C .sites) (C .k) (fitAt (fits C starts) i)) (λ i. fitAt (fits C starts) i .cost) (number C starts) (length (fits C starts)) (both .0) j (listed-back C starts j l))
 
   pub answered : Answered C starts
-  answered = record { found = found-is-best C starts; noneConverges = none-converges; someConverges = some-converges; nonePlausible = none-plausible }
+  answered = record { numbers = λ i h. cost-number C (getD starts i []) h; found = found-is-best C starts; noneConverges = none-converges; someConverges = some-converges; nonePlausible = none-plausible }

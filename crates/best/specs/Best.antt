@@ -36,8 +36,7 @@ told r = cond (r .found) (gives (r .fit)) (fails (r .why))
 
 -- "squared Mahalanobis distance of the four parameters under the best's information": delta · (information delta)
 unfoldable pub distance : Fit → Fit → Float
-distance best other =
-    let delta = four (λ i. nth (other .params) i ⊖ nth (best .params) i) in
+distance best other = let delta = four (λ i. nth (other .params) i ⊖ nth (best .params) i) in
     dots (nth delta) (nth (mulVec (best .information) 4 delta (replicate 4 nought))) 4
 
 -- not `other.cost > best.cost + AMBIGUOUS_COST`, which is 9, and "outside the best's own 10^-6 ellipsoid": `distance > limit`. Document 01: "Cost equal to best plus 9 is still weighed".

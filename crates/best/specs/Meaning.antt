@@ -1,4 +1,4 @@
--- What the best fit is, in words that know nothing of its computation. Statements only: proofs/Cost.antt proves the first, proofs/Found.antt and proofs/Over.antt the others.
+-- What the best fit is, in words that know nothing of its computation. Statements only: proofs/Found.antt and proofs/Over.antt prove them.
 use mathlib.Core.Path.{_≡_}
 use mathlib.Core.Bool.{not}
 use mathlib.Core.List.{List, []}
@@ -18,10 +18,6 @@ use Rattle.best.specs.declared.Unfit.the-variants.{NoConvergence, OutOfR
 use Rattle.best.specs.Plausible.{minHeightM, maxHeightM, maxRangeM, range}
 use Rattle.best.specs.Best.{gives, fails, weighed, rival, best}
 use Rattle.best.specs.OfProblem.{Receptions, whitenerOver, chosenOver, startsOver, bestFitOver}
-
--- a fit that converged has a number for its cost, so that costs can be ranked
-abbrev pub CostIsNumber : Type 0
-CostIsNumber = (C : Chosen) (start : List Float) → T (levenbergMarquardt C start .ok) → T (not (isNan (levenbergMarquardt C start .cost)))
 
 -- Demand 3: "used ranges at most 600,000 m, height -1,500 to 25,000 m", as binary64 compares. The k sites are those of the receptions C.
 pub record Plausible (C : Chosen) (fit : Fit) : Type 0 where
@@ -49,8 +45,9 @@ module _ (C : Chosen) (starts : List (List Float)) where
     pub earliest : (j : ℕ) → j < i → T (weighed (C .sites) (C .k) (fitFrom j)) → T (lt (fit .cost) (fitFrom j .cost))
     pub alone : NoRival fit
 
-  -- what `best` answers of them: a fit that it gives is the best; "no start converges"; "some converge, none plausible"
+  -- what `best` answers of them: a fit that it gives is the best; "no start converges"; "some converge, none plausible". A fit that converged has a number for its cost, so that costs can be ranked.
   pub record Answered : Type 0 where
+    pub numbers : (i : ℕ) → T (fitFrom i .ok) → T (not (isNan (fitFrom i .cost)))
     pub found : (fit : Fit) → best C starts ≡ gives fit → (i : ℕ) × IsBest fit i
     pub noneConverges : best C starts ≡ fails NoConvergence → (j : ℕ) → j < length starts → T (not (fitFrom j .ok))
     pub someConverges : best C starts ≡ fails OutOfRange → (i : ℕ) × (i < length starts) × T (fitFrom i .ok)
