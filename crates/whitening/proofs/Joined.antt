@@ -4,7 +4,7 @@ use mathlib.Core.List.{List, []}
 use Prim.Native.Nat.{ℕ, _+_}
 use lib.ListN.{set}
 use lib.Ieee.{Float, neg, round, ofBits}
-use Rattle.binary64.specs.Steps.{#, _⊖_, _⊘_, one}
+use Rattle.binary64.specs.Steps.{#, _⊖_, _⊘_, one, decimal}
 use Rattle.dense.specs.Entries.{nth}
 use Rattle.dense.specs.Solve.{forward}
 use Rattle.geo.specs.Geo.{fromEcef}
@@ -12,18 +12,18 @@ use Rattle.geo.specs.declared.Geodetic.{Geodetic}
 use Rattle.problem.specs.Problem.{position}
 use Rattle.problem.specs.declared.Altitude.{Altitude}
 use Rattle.problem.specs.declared.Altitude.the-variants.{None, Barometric, Gnss}
-use Rattle.whitening.specs.Whitened.{Chosen, Rows, rows, blank, raw, rawRow, slopeAt, fillTo, baroSigmaM, gnssSigmaM, upRow, pushAltitude, whitenedColumn, whitened}
+use Rattle.whitening.specs.Whitened.{Chosen, Rows, rows, blank, raw, rawRow, slopeAt, fillTo, upRow, pushAltitude, whitenedColumn, whitened}
 use Rattle.whitening.specs.declared.Equations.{Equations}
 use Rattle.whitening.specs.Normal.{costTo, normal, evaluated}
 use Rattle.whitening.proofs.Costs.{cost-is}
 
 -- the constants have the bits that the code has
-pub baro-bits : baroSigmaM ≡ # 0x4059000000000000
-unfolding baroSigmaM round ofBits
+pub baro-bits : decimal 100 0 ≡ # 0x4059000000000000
+unfolding round ofBits
 baro-bits = refl
 
-pub gnss-bits : gnssSigmaM ≡ # 0x402E000000000000
-unfolding gnssSigmaM round ofBits
+pub gnss-bits : decimal 15 0 ≡ # 0x402E000000000000
+unfolding round ofBits
 gnss-bits = refl
 
 -- one relation that holds of each of the four arrays of slopes, as a contract says it

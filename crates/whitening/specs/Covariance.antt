@@ -14,22 +14,17 @@ use Rattle.problem.specs.Gathered.{pick}
 -- `value` of the a-th and the b-th chosen: `clock[*i][*j]`, plus the noise where a == b
 unfoldable pub shared : List Float → ℕ → List Float → List ℕ → ℕ → ℕ → Float
 shared clock n noise index a b =
-    let i = pick index a in
-    let value = at clock n i (pick index b) in
-    cond (eqb a b) (value ⊕ nth noise i) value
+    let value = at clock n (pick index a) (pick index b) in cond (eqb a b) (value ⊕ nth noise (pick index a)) value
 
 -- `for (b, j) in subset.iter().enumerate().skip(a)`, after m turns: the value of a and b = a + m stands at both mirrored places of a matrix of size k
 unfoldable pub covarianceRowTo : List Float → ℕ → List Float → List ℕ → ℕ → ℕ → List Float → ℕ → List Float
-unfolding shared
 covarianceRowTo clock n noise index k a sigma zero = sigma
 covarianceRowTo clock n noise index k a sigma (suc m) =
-    let g = covarianceRowTo clock n noise index k a sigma m in
     let value = shared clock n noise index a (a + m) in
-    put (put g k a (a + m) value) k (a + m) a value
+    put (put (covarianceRowTo clock n noise index k a sigma m) k a (a + m) value) k (a + m) a value
 
 -- `for (a, i) in subset.iter().enumerate()`, after a turns
 unfoldable pub covarianceTo : List Float → ℕ → List Float → List ℕ → ℕ → List Float → ℕ → List Float
-unfolding covarianceRowTo
 covarianceTo clock n noise index k sigma zero = sigma
 covarianceTo clock n noise index k sigma (suc a) = covarianceRowTo clock n noise index k a (covarianceTo clock n noise index k sigma a) (k - a)
 

@@ -9,13 +9,10 @@ use Rattle.problem.specs.Problem.{four}
 use Rattle.whitening.specs.declared.Equations.{Equations}
 use Rattle.whitening.specs.Whitened.{Chosen, Rows, whitened}
 
--- a 4 x 4 matrix by its entries, row by row
-abbrev pub fourByFour : (ℕ → ℕ → Float) → List Float
-fourByFour f = four (f 0) ++ four (f 1) ++ four (f 2) ++ four (f 3)
-
--- `information.add(i, j, row[i] * row[j])` for each i and j
+-- `information.add(i, j, row[i] * row[j])` for each i and j, row by row
 unfoldable pub plusProducts : List Float → List Float → List Float
-plusProducts m row = fourByFour (λ i j. at m 4 i j ⊕ nth row i ⊗ nth row j)
+plusProducts m row =
+    let entry : ℕ → ℕ → Float = λ i j. at m 4 i j ⊕ nth row i ⊗ nth row j in four (entry 0) ++ four (entry 1) ++ four (entry 2) ++ four (entry 3)
 
 -- `gradient[i] += row[i] * r` for each i
 unfoldable pub plusMultiple : List Float → List Float → Float → List Float
@@ -28,7 +25,6 @@ costTo r (suc i) = costTo r i ⊕ nth r i ⊗ nth r i
 
 -- `for (r, row) in residuals.iter().zip(jacobian)`, after i turns
 unfoldable pub normalTo : Rows → ℕ → Equations
-unfolding plusProducts plusMultiple
 normalTo w zero = record { information = replicate 16 nought; gradient = replicate 4 nought; cost = nought }
 normalTo w (suc i) =
     let e = normalTo w i in
@@ -42,5 +38,4 @@ normal w = normalTo w (w .count)
 
 -- the normal equations at p
 unfoldable pub evaluated : Chosen → List Float → Equations
-unfolding whitened normalTo
 evaluated P p = normal (whitened P p)

@@ -50,7 +50,6 @@ slopeAt sites p axis i = neg (nth (sub (position p) (siteAt sites i)) axis) ⊘ 
 
 -- reception i before it is whitened: the residual and its four slopes
 unfoldable pub rawRow : List Float → List Float → ℕ → List Float → List Float
-unfolding residual
 rawRow sites z i p = residual sites z i p ∷ slopeAt sites p 0 i ∷ slopeAt sites p 1 i ∷ slopeAt sites p 2 i ∷ neg one ∷ []
 
 -- entry j of the row of reception i
@@ -70,18 +69,10 @@ blank = replicate 33 nought
 abbrev pub whitenedColumn : Chosen → List Float → ℕ → List Float
 whitenedColumn P p j = forward (P .whitener) (P .k) (fillTo (raw (P .sites) (P .z) p j) blank (P .k))
 
--- `BARO_SIGMA_M` and `GNSS_SIGMA_M`: "one standard deviation", metres, of an altitude of either kind
-unfoldable pub baroSigmaM : Float
-baroSigmaM = decimal 100 0
-
-unfoldable pub gnssSigmaM : Float
-gnssSigmaM = decimal 15 0
-
 -- the slopes of the altitude's row at a place: `up` over sigma, and 0
 unfoldable pub upRow : Float → Geodetic → List Float
 upRow sigma g =
-    let up = getD (enuBasis (g .«lat_deg») (g .«lon_deg»)) 2 [] in
-    (nth up 0 ⊘ sigma) ∷ (nth up 1 ⊘ sigma) ∷ (nth up 2 ⊘ sigma) ∷ nought ∷ []
+    let up = getD (enuBasis (g .«lat_deg») (g .«lon_deg»)) 2 [] in (nth up 0 ⊘ sigma) ∷ (nth up 1 ⊘ sigma) ∷ (nth up 2 ⊘ sigma) ∷ nought ∷ []
 
 -- the altitude's row: `(position.height_m - metres) / sigma`, and its slopes
 abbrev pub heightRow : Float → Float → Geodetic → List Float
@@ -91,13 +82,12 @@ heightRow metres sigma g = ((g .«height_m» ⊖ metres) ⊘ sigma) ∷ upRow si
 abbrev pub push : Rows → List Float → Rows
 push w row = let put : List Float → ℕ → List Float = λ y j. set y (w .count) (nth row j) in rows (w .count + 1) (put (w .r) 0) (put (w .a) 1) (put (w .b) 2) (put (w .c) 3) (put (w .d) 4)
 
--- "the altitude row last", where there is an altitude
+-- "the altitude row last", where there is an altitude, whose "one standard deviation" is `BARO_SIGMA_M` = 100 or `GNSS_SIGMA_M` = 15 metres
 abbrev pub pushAltitude : Altitude → Geodetic → Rows → Rows
 pushAltitude None g w = w
-pushAltitude (Barometric metres) g w = push w (heightRow metres baroSigmaM g)
-pushAltitude (Gnss metres) g w = push w (heightRow metres gnssSigmaM g)
+pushAltitude (Barometric metres) g w = push w (heightRow metres (decimal 100 0) g)
+pushAltitude (Gnss metres) g w = push w (heightRow metres (decimal 15 0) g)
 
 -- `whitened`: the rows of the receptions, and the altitude's
 unfoldable pub whitened : Chosen → List Float → Rows
-unfolding rawRow fillTo upRow
 whitened P p = let column = whitenedColumn P p in pushAltitude (P .altitude) (fromEcef (position p)) (rows (P .k) (column 0) (column 1) (column 2) (column 3) (column 4))
