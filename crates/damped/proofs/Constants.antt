@@ -2,14 +2,13 @@
 use mathlib.Core.Path.{_≡_, refl}
 use lib.Ieee.{round, ofBits}
 use Rattle.binary64.specs.Steps.{#, decimal}
-use Rattle.damped.specs.Damped.{lmLambda, lmToleranceM}
 
-pub lambda-bits : lmLambda ≡ # 0x3F50624DD2F1A9FC
-unfolding lmLambda round ofBits
+pub lambda-bits : decimal 1 3 ≡ # 0x3F50624DD2F1A9FC
+unfolding round ofBits
 lambda-bits = refl
 
-pub tolerance-bits : lmToleranceM ≡ # 0x3F1A36E2EB1C432D
-unfolding lmToleranceM round ofBits
+pub tolerance-bits : decimal 1 4 ≡ # 0x3F1A36E2EB1C432D
+unfolding round ofBits
 tolerance-bits = refl
 
 pub least-bits : decimal 1 12 ≡ # 0x3D719799812DEA11

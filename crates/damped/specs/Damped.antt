@@ -19,20 +19,11 @@ use Rattle.damped.specs.declared.Stepped.{Stepped}
 use Rattle.damped.specs.declared.Solved.{Solved}
 use Rattle.damped.specs.declared.Fit.{Fit}
 
--- `LM_LAMBDA`, 1e-3: the initial damping
-unfoldable pub lmLambda : Float
-lmLambda = decimal 1 3
-
--- `LM_TOLERANCE_M`, 1e-4: "the step below which it has converged (metres, on every parameter)"
-unfoldable pub lmToleranceM : Float
-lmToleranceM = decimal 1 4
-
 -- `damped`, after i turns of `for i in 0..4`: `damped.add(i, i, lambda * information.get(i, i).max(1e-12))`
 unfoldable pub dampedTo : List Float → Float → ℕ → List Float
 dampedTo information lambda zero = information
 dampedTo information lambda (suc i) =
-    let m = dampedTo information lambda i in
-    put m 4 i i (at m 4 i i ⊕ lambda ⊗ maxOf (at information 4 i i) (decimal 1 12))
+    let m = dampedTo information lambda i in put m 4 i i (at m 4 i i ⊕ lambda ⊗ maxOf (at information 4 i i) (decimal 1 12))
 
 -- `m.cholesky()?.solve(&gradient.map(|value| -value))`: where the Cholesky fails there is none, and zeros stand for it
 abbrev pub solved : Factor → List Float → Solved
@@ -46,9 +37,9 @@ descent m gradient = solved (cholesky m 4 (replicate 16 nought)) (four (λ i. ne
 unfoldable pub moved : List Float → List Float → List Float
 moved params x = four (λ i. nth params i ⊕ nth x i)
 
--- `value.abs() < LM_TOLERANCE_M`
+-- `value.abs() < LM_TOLERANCE_M`, 1e-4: "the step below which it has converged (metres, on every parameter)"
 abbrev pub below : Float → Bool
-below value = lt (abs value) lmToleranceM
+below value = lt (abs value) (decimal 1 4)
 
 -- `step.iter().all(|value| value.abs() < LM_TOLERANCE_M)`
 unfoldable pub small : List Float → Bool
@@ -60,19 +51,16 @@ better next cost = isFinite next && le next cost
 
 -- what a step x gives that is taken: the candidate, its normal equations `next`, and `(lambda / 10.0).max(1e-12)`; a small step ends the fit
 unfoldable pub accepted : Float → List Float → List Float → Equations → Stepped
-accepted lambda x candidate next = record {
-  state = record { params = candidate; information = next .information; gradient = next .gradient; cost = next .cost; lambda = maxOf (lambda ⊘ decimal 10 0) (decimal 1 12) };
-  verdict = cond (small x) Converged Accepted;
-}
+accepted lambda x candidate next =
+    let state : Lm = record { params = candidate; information = next .information; gradient = next .gradient; cost = next .cost; lambda = maxOf (lambda ⊘ decimal 10 0) (decimal 1 12) } in
+    record { state = state; verdict = cond (small x) Converged Accepted }
 
 -- what a step gives that is not taken: the state with `lambda *= 10.0`; `if lambda > 1e12 { break; }`
 unfoldable pub rejected : Lm → Stepped
 rejected s =
     let lambda = s .lambda ⊗ decimal 10 0 in
-    record {
-      state = record { params = s .params; information = s .information; gradient = s .gradient; cost = s .cost; lambda = lambda };
-      verdict = cond (lt (decimal 1_000_000_000_000 0) lambda) Stopped Rejected;
-    }
+    let state : Lm = record { params = s .params; information = s .information; gradient = s .gradient; cost = s .cost; lambda = lambda } in
+    record { state = state; verdict = cond (lt (decimal 1_000_000_000_000 0) lambda) Stopped Rejected }
 
 -- what a step x gives that is tried: the candidate is taken or not, by its cost
 abbrev pub tried : Chosen → Lm → List Float → List Float → Stepped
@@ -108,9 +96,9 @@ unfoldable pub run : Chosen → ℕ → Lm → Fit
 run P zero s = plain s
 run P (suc n) s = let t = step P s in after (t .verdict) (t .state) (run P n (t .state))
 
--- the state at a start, where the normal equations are e
+-- the state at a start, where the normal equations are e, with the initial damping `LM_LAMBDA`, 1e-3
 abbrev pub started : List Float → Equations → Lm
-started start e = record { params = start; information = e .information; gradient = e .gradient; cost = e .cost; lambda = lmLambda }
+started start e = record { params = start; information = e .information; gradient = e .gradient; cost = e .cost; lambda = decimal 1 3 }
 
 -- `levenberg_marquardt`, of at most `LM_ITERATIONS` = 50 steps
 unfoldable pub levenbergMarquardt : Chosen → List Float → Fit
