@@ -17,8 +17,8 @@ use Rattle.problem.specs.declared.Altitude.{Altitude}
 use Rattle.starts.specs.declared.Points.{Points}
 use Rattle.starts.specs.Points.{empty, packed, point}
 use Rattle.starts.specs.Lifted.{centroid, timed, lifted, ringPlace, circleTo, ring}
-use Rattle.starts.specs.Bancroft.{lorentz, productsTo, rhsTo, lambdas, allFinite, kept, placeAt, places, crossed, pseudo, factored, bancroft}
-use Rattle.starts.specs.Starts.{startHeight, before, starts, startsAfter}
+use Rattle.starts.specs.Bancroft.{lorentz, productsTo, rhsTo, lambdas, allFinite, placeAt, places, crossed, pseudo, factored, bancroft}
+use Rattle.starts.specs.Starts.{startHeight, starts, startsAfter}
 use Rattle.starts.proofs.Places.{packed-at}
 use Rattle.starts.proofs.Count.{starts-most}
 
@@ -53,7 +53,7 @@ module _ (u v centroid : List Float) where
   place-four l = refl
 
   places-four : (ls : List Float) → Fours (places u v centroid ls)
-  unfolding places kept
+  unfolding places
   places-four [] = no-four
   places-four (l ∷ ls) =
       let p : List Float = placeAt u v centroid l in
@@ -106,7 +106,7 @@ module _ (sites z : List Float) (k : ℕ) where
       after-four : Fours (startsAfter had previous sites z k altitude)
       unfolding startsAfter
       after-four =
-          appended (before had previous) (starts sites z k altitude)
+          appended (cond had (four (nth previous) ∷ []) []) (starts sites z k altitude)
           (either had (four (nth previous) ∷ []) [] (one-more (four (nth previous)) [] refl no-four) no-four) starts-four
 
       -- what `starts` ensures, as its callers use it: the i-th start

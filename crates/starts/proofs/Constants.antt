@@ -6,7 +6,6 @@ use lib.IntN.{pos}
 use lib.Ieee.{binary64, inFloat, ofInt, round, ofBits}
 use borrow.Author.Tests.{le-leb}
 use Rattle.binary64.specs.Steps.{#, one, decimal}
-use Rattle.starts.specs.Lifted.{tau}
 
 pub nine-thousand : decimal 9000 0 ≡ # 0x40C1940000000000
 unfolding round ofBits
@@ -20,7 +19,7 @@ pub far-radius : decimal 300000 0 ≡ # 0x41124F8000000000
 unfolding round ofBits
 far-radius = refl
 
-pub whole-turn : tau ≡ # 0x401921FB54442D18
+pub whole-turn : decimal 628318530717958647692528676655900577 35 ≡ # 0x401921FB54442D18
 unfolding round ofBits
 whole-turn = refl
 

@@ -16,8 +16,8 @@ use Rattle.problem.specs.declared.Altitude.{Altitude}
 use Rattle.starts.specs.declared.Points.{Points}
 use Rattle.starts.specs.Points.{empty, packed}
 use Rattle.starts.specs.Lifted.{centroid, lifted, ringPlace, circleTo, ring}
-use Rattle.starts.specs.Bancroft.{lorentz, productsTo, rhsTo, lambdas, allFinite, kept, placeAt, places, crossed, pseudo, factored, bancroft}
-use Rattle.starts.specs.Starts.{startHeight, before, starts, startsAfter}
+use Rattle.starts.specs.Bancroft.{lorentz, productsTo, rhsTo, lambdas, allFinite, placeAt, places, crossed, pseudo, factored, bancroft}
+use Rattle.starts.specs.Starts.{startHeight, starts, startsAfter}
 use Rattle.starts.proofs.Places.{packed-count}
 
 -- a list on either side of a test
@@ -25,8 +25,7 @@ either-most : {A : Type 0} (n : ℕ) (t : Bool) (a b : List A) → length a ≤ 
 either-most n true a b p q = p
 either-most n false a b p q = q
 
-kept-most : (p : List Float) → length (kept p) ≤ 1
-unfolding kept
+kept-most : (p : List Float) → length (cond (allFinite p) (p ∷ []) []) ≤ 1
 kept-most p = either-most 1 (allFinite p) (p ∷ []) [] (omega arith) (omega arith)
 
 lambdas-most : (a b c : Float) → length (lambdas a b c) ≤ 2
@@ -40,7 +39,9 @@ module _ (u v centroid : List Float) where
   places-most : (ls : List Float) → length (places u v centroid ls) ≤ length ls
   unfolding places
   places-most [] = omega arith
-  places-most (l ∷ ls) = omega (arith, length-append (kept (placeAt u v centroid l)) (places u v centroid ls), kept-most (placeAt u v centroid l), places-most ls)
+  places-most (l ∷ ls) =
+      let p : List Float = placeAt u v centroid l in
+      omega (arith, length-append (cond (allFinite p) (p ∷ []) []) (places u v centroid ls), kept-most p, places-most ls)
 
   crossed-most : length (crossed u v centroid) ≤ 2
   unfolding crossed
@@ -104,11 +105,11 @@ module _ (sites z : List Float) (k : ℕ) (altitude : Altitude) where
       either-between (leb 4 k) (roots ++ (above ∷ [])) (above ∷ ring sites z k height middle basis) (omega arith, omega arith) (omega arith, omega arith)
 
   module _ (had : Bool) (previous : List Float) where
-    after-count : length (startsAfter had previous sites z k altitude) ≡ length (before had previous) + length (starts sites z k altitude)
+    after-count : length (startsAfter had previous sites z k altitude) ≡ length (cond had (four (nth previous) ∷ []) []) + length (starts sites z k altitude)
     unfolding startsAfter
-    after-count = length-append (before had previous) (starts sites z k altitude)
+    after-count = length-append (cond had (four (nth previous) ∷ []) []) (starts sites z k altitude)
 
-    before-most : length (before had previous) ≤ 1
+    before-most : length (cond had (four (nth previous) ∷ []) []) ≤ 1
     before-most = either-most 1 had (four (nth previous) ∷ []) [] (omega arith) (omega arith)
 
     pub starts-least : 1 ≤ length (startsAfter had previous sites z k altitude)

@@ -17,10 +17,6 @@ use Rattle.whitening.specs.Normal.{plusProducts, plusMultiple}
 unfoldable pub lorentz : List Float → List Float → Float
 lorentz a b = nth a 0 ⊗ nth b 0 ⊕ nth a 1 ⊗ nth b 1 ⊕ nth a 2 ⊗ nth b 2 ⊖ nth a 3 ⊗ nth b 3
 
--- a row's part in `rhs`: `ones`, or `alpha`
-unfoldable pub rhs : Bool → List Float → Float
-rhs alpha row = cond alpha (half ⊗ lorentz row row) one
-
 module _ (sites z centroid : List Float) where
   -- `rows`: reception i's site less the centroid, and its time
   unfoldable pub rowAt : ℕ → List Float
@@ -31,10 +27,10 @@ module _ (sites z centroid : List Float) where
   productsTo zero = replicate 16 nought
   productsTo (suc i) = plusProducts (productsTo i) (rowAt i)
 
-  -- `bt`, of the first i rows: `bt[i] += row[i] * value`
+  -- `bt`, of the first i rows: `bt[i] += row[i] * value`, for the values `alpha`, or `ones`
   unfoldable pub rhsTo : Bool → ℕ → List Float
   rhsTo alpha zero = replicate 4 nought
-  rhsTo alpha (suc i) = plusMultiple (rhsTo alpha i) (rowAt i) (rhs alpha (rowAt i))
+  rhsTo alpha (suc i) = let row = rowAt i in plusMultiple (rhsTo alpha i) row (cond alpha (half ⊗ lorentz row row) one)
 
 -- `pseudo`, with the factor l
 unfoldable pub pseudo : List Float → List Float → List Float
@@ -43,8 +39,7 @@ pseudo l bt = let x = solve l 4 bt in nth x 0 ∷ nth x 1 ∷ nth x 2 ∷ neg (n
 -- `lambdas`: the real roots of a λ² + b λ + c
 unfoldable pub lambdas : Float → Float → Float → List Float
 lambdas a b c =
-    let discriminant = b ⊗ b ⊖ decimal 4 0 ⊗ a ⊗ c in
-    let r = root discriminant in
+    let discriminant = b ⊗ b ⊖ decimal 4 0 ⊗ a ⊗ c in let r = root discriminant in
     cond (lt (abs a) (decimal 1 30)) (cond (lt (decimal 1 30) (abs b)) ((neg c ⊘ b) ∷ []) [])
     (cond (le nought discriminant) (((neg b ⊖ r) ⊘ (two ⊗ a)) ∷ ((neg b ⊕ r) ⊘ (two ⊗ a)) ∷ []) [])
 
@@ -52,21 +47,16 @@ lambdas a b c =
 unfoldable pub allFinite : List Float → Bool
 allFinite params = isFinite (nth params 0) && (isFinite (nth params 1) && (isFinite (nth params 2) && isFinite (nth params 3)))
 
--- the `filter`: parameters that are not all finite are left out
-unfoldable pub kept : List Float → List (List Float)
-kept params = cond (allFinite params) (params ∷ []) []
-
 module _ (u v centroid : List Float) where
   -- the parameters of a root
   unfoldable pub placeAt : Float → List Float
   placeAt lambda =
-      (lambda ⊗ nth u 0 ⊕ nth v 0 ⊕ nth centroid 0) ∷ (lambda ⊗ nth u 1 ⊕ nth v 1 ⊕ nth centroid 1) ∷ (lambda ⊗ nth u 2 ⊕ nth v 2 ⊕ nth centroid 2) ∷
-      (lambda ⊗ nth u 3 ⊕ nth v 3) ∷ []
+      let at : ℕ → Float = λ i. lambda ⊗ nth u i ⊕ nth v i in (at 0 ⊕ nth centroid 0) ∷ (at 1 ⊕ nth centroid 1) ∷ (at 2 ⊕ nth centroid 2) ∷ at 3 ∷ []
 
-  -- those of each root, the finite ones
+  -- those of each root; the `filter` leaves out what is not all finite
   unfoldable pub places : List Float → List (List Float)
   places [] = []
-  places (lambda ∷ rest) = kept (placeAt lambda) ++ places rest
+  places (lambda ∷ rest) = let params = placeAt lambda in cond (allFinite params) (params ∷ []) [] ++ places rest
 
   -- from u and v
   unfoldable pub crossed : List (List Float)

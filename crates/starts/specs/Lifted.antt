@@ -28,14 +28,10 @@ unfoldable pub centroid : List Float → ℕ → List Float
 centroid sites k = centroidTo sites (one ⊘ size k) k
 
 module _ (sites z : List Float) where
-  -- the transmit time that reception i gives the place x
-  unfoldable pub sent : List Float → ℕ → Float
-  sent x i = nth z i ⊖ norm (sub x (siteAt sites i))
-
-  -- the sum of the first i. Document 01: "Sums start from plus zero".
+  -- the sum of the transmit times that the first i receptions give the place x. Document 01: "Sums start from plus zero".
   unfoldable pub sentTo : List Float → ℕ → Float
   sentTo x zero = nought
-  sentTo x (suc i) = sentTo x i ⊕ sent x i
+  sentTo x (suc i) = sentTo x i ⊕ (nth z i ⊖ norm (sub x (siteAt sites i)))
 
   -- `[x[0], x[1], x[2], t]`: a place, and the mean of the times of k receptions
   unfoldable pub timed : ℕ → List Float → List Float
@@ -45,13 +41,9 @@ module _ (sites z : List Float) where
   unfoldable pub lifted : ℕ → Geodetic → Float → List Float
   lifted k ground height = timed k (toEcef (record { «lat_deg» = ground .«lat_deg»; «lon_deg» = ground .«lon_deg»; «height_m» = height }))
 
--- `std::f64::consts::TAU`
-abbrev pub tau : Float
-tau = decimal 628318530717958647692528676655900577 35
-
--- `bearing`: `TAU * step as f64 / RING_BEARINGS as f64`
+-- `bearing`: `TAU * step as f64 / RING_BEARINGS as f64`, with the digits of `std::f64::consts::TAU`
 unfoldable pub bearing : ℕ → Float
-bearing step = tau ⊗ ofInt binary64 (pos step) ⊘ ofInt binary64 (pos 8)
+bearing step = decimal 628318530717958647692528676655900577 35 ⊗ ofInt binary64 (pos step) ⊘ ofInt binary64 (pos 8)
 
 -- `linalg::add(centroid, offset)`, where the basis is east, north and up
 unfoldable pub ringPlace : List Float → List (List Float) → Float → ℕ → List Float

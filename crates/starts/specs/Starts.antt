@@ -23,16 +23,10 @@ startHeight (Gnss metres) = metres
 -- Document 01: "the ring is due only under four".
 unfoldable pub starts : List Float → List Float → ℕ → Altitude → List (List Float)
 starts sites z k altitude =
-    let middle = centroid sites k in
-    let ground = fromEcef middle in
-    let height = startHeight altitude in
-    let above = lifted sites z k ground height in
+    let middle = centroid sites k in let ground = fromEcef middle in
+    let height = startHeight altitude in let above = lifted sites z k ground height in
     cond (leb 4 k) (bancroft sites z k middle ++ (above ∷ [])) (above ∷ ring sites z k height middle (enuBasis (ground .«lat_deg») (ground .«lon_deg»)))
 
--- `vec![params]`, where there are parameters of a round before
-abbrev pub before : Bool → List Float → List (List Float)
-before had previous = cond had (four (nth previous) ∷ []) []
-
--- the starts of a round: the last round's parameters come first
+-- the starts of a round: the last round's parameters come first (`vec![params]`), where it had any
 unfoldable pub startsAfter : Bool → List Float → List Float → List Float → ℕ → Altitude → List (List Float)
-startsAfter had previous sites z k altitude = before had previous ++ starts sites z k altitude
+startsAfter had previous sites z k altitude = cond had (four (nth previous) ∷ []) [] ++ starts sites z k altitude

@@ -1,8 +1,11 @@
 // Bancroft's closed form for `z_i = T + |X - s_i|`, in coordinates centred on the sites' centroid.
 ghost use mathlib.Core.Path.{_≡_};
+ghost use mathlib.Core.Bool.{cond};
+ghost use mathlib.Core.List.{[], _∷_};
 ghost use Prim.Native.Nat.{_<_, _≤_};
+ghost use Rattle.binary64.specs.Steps.{_⊗_, half, one};
 ghost use Rattle.starts.specs.Points.{packed};
-ghost use Rattle.starts.specs.Bancroft.{lorentz, rhs, rowAt, productsTo, rhsTo, pseudo, lambdas, allFinite, kept, placeAt, places, crossed, bancroft};
+ghost use Rattle.starts.specs.Bancroft.{lorentz, rowAt, productsTo, rhsTo, pseudo, lambdas, allFinite, placeAt, places, crossed, bancroft};
 use crate::Points;
 use crate::push;
 
@@ -38,7 +41,7 @@ fn products(sites: &[f64; 96], z: &[f64; 32], centroid: [f64; 3], k: usize) -> [
 
 // A row's part in the right side: 1, or where `alpha` is asked for half the row's product with itself.
 fn rhs(alpha: bool, row: [f64; 4]) -> f64
-    ensures { λ r. ⌜ r ≡ rhs alpha row ⌝ }
+    ensures { λ r. ⌜ r ≡ cond alpha (half ⊗ lorentz row row) one ⌝ }
 {
     if alpha {
         return 0.5 * lorentz(row, row);
@@ -101,7 +104,7 @@ fn all_finite(params: [f64; 4]) -> bool
 
 // The start of a root more, if it is finite.
 fn with_place(points: Points, u: [f64; 4], v: [f64; 4], centroid: [f64; 3], lambda: f64) -> Points
-    ensures { λ r. ⌜ r ≡ packed points (kept (placeAt u v centroid lambda)) ⌝ }
+    ensures { λ r. ⌜ r ≡ packed points (places u v centroid (lambda ∷ [])) ⌝ }
 {
     let params = place_at(u, v, centroid, lambda);
     if all_finite(params) {

@@ -4,9 +4,13 @@ mod bancroft;
 mod lifted;
 
 ghost use mathlib.Core.Path.{_≡_};
+ghost use mathlib.Core.Bool.{cond};
+ghost use mathlib.Core.List.{[], _∷_};
 ghost use Prim.Native.Nat.{_<_, _≤_};
+ghost use Rattle.dense.specs.Entries.{nth};
+ghost use Rattle.problem.specs.Problem.{four};
 ghost use Rattle.starts.specs.Points.{empty, push, packed, point};
-ghost use Rattle.starts.specs.Starts.{startHeight, before, startsAfter};
+ghost use Rattle.starts.specs.Starts.{startHeight, startsAfter};
 use bancroft::with_bancroft;
 use lifted::centroid;
 use lifted::lifted;
@@ -59,7 +63,7 @@ fn start_height(altitude: Altitude) -> f64
 
 // The last round's parameters, where there are any.
 fn first(had: bool, previous: [f64; 4]) -> Points
-    ensures { λ r. ⌜ r ≡ packed empty (before had previous) ⌝ }
+    ensures { λ r. ⌜ r ≡ packed empty (cond had (four (nth previous) ∷ []) []) ⌝ }
 {
     let points = Points {
         n: 0,

@@ -1,8 +1,12 @@
 // The start above the receivers' centroid, and the ring of starts about it.
 ghost use mathlib.Core.Path.{_≡_};
 ghost use Prim.Native.Nat.{_<_, _≤_};
+ghost use Rattle.binary64.specs.Steps.{_⊖_};
+ghost use Rattle.dense.specs.Entries.{nth};
+ghost use Rattle.linalg.specs.Vec3.{sub, norm};
+ghost use Rattle.problem.specs.Problem.{siteAt};
 ghost use Rattle.starts.specs.Points.{packed};
-ghost use Rattle.starts.specs.Lifted.{size, centroid, sent, timed, lifted, bearing, ringPlace, circleTo, ring};
+ghost use Rattle.starts.specs.Lifted.{size, centroid, timed, lifted, bearing, ringPlace, circleTo, ring};
 use crate::Points;
 use crate::push;
 use geo::Geodetic;
@@ -46,7 +50,7 @@ pub fn centroid(sites: &[f64; 96], k: usize) -> [f64; 3]
 // The transmit time that reception i gives the place x.
 fn sent(sites: &[f64; 96], z: &[f64; 32], x: [f64; 3], i: usize) -> f64
     requires { ⌜ i < 32 ⌝ }
-    ensures { λ r. ⌜ r ≡ sent (now (sites .entry)) (now (z .entry)) x i ⌝ }
+    ensures { λ r. ⌜ r ≡ nth (now (z .entry)) i ⊖ norm (sub x (siteAt (now (sites .entry)) i)) ⌝ }
 {
     z[i] - linalg::norm(linalg::sub(x, problem::site(sites, i)))
 }

@@ -1,6 +1,5 @@
 -- `starts::bancroft::rhs` meets its contract: the flag decides, as in the definition. Assumes nothing.
 use borrow.Author.Needs.{needs}
-use Rattle.starts.specs.Bancroft.{rhs}
 use Rattle.starts.proofs.bancroft.rhs.Statement.{statement}
 use Rattle.starts.proofs.bancroft.rhs.Tie as tie
 
@@ -8,11 +7,9 @@ lorentz-requires : tie.Need-lorentz-requires
 lorentz-requires c κs = search needs
 
 returns : tie.Need-returns
-unfolding rhs
 returns c = rw (c .before .if1 .taken, ← c .lorentz .ensures)
 
 returns-2 : tie.Need-returns-2
-unfolding rhs
 returns-2 c = rw (c .if1 .left)
 
 pub rhs-spec : {M : Type 1} → statement M

@@ -1,7 +1,7 @@
 -- `starts::bancroft::with_place` meets its contract: what is not finite is left out. Assumes nothing.
 use borrow.Author.Needs.{needs}
 use Rattle.starts.specs.Points.{packed}
-use Rattle.starts.specs.Bancroft.{kept}
+use Rattle.starts.specs.Bancroft.{places}
 use Rattle.starts.proofs.bancroft.with_place.Statement.{statement}
 use Rattle.starts.proofs.bancroft.with_place.Tie as tie
 
@@ -15,11 +15,11 @@ push-requires : tie.Need-push-requires
 push-requires c κs = search needs
 
 returns : tie.Need-returns
-unfolding packed kept
+unfolding packed places
 returns c = rw (← c .before .before .before .place-at .ensures, ← c .before .before .all-finite .ensures, c .before .if1 .taken, ← c .push .ensures)
 
 returns-2 : tie.Need-returns-2
-unfolding packed kept
+unfolding packed places
 returns-2 c = rw (← c .before .before .place-at .ensures, ← c .before .all-finite .ensures, c .if1 .left)
 
 pub with-place-spec : {M : Type 1} → statement M

@@ -1,9 +1,9 @@
--- `starts::bancroft::with_places` meets its contract: each return is one case of `lambdas`: no root, one or two (`no-place`, `one-place`, `two-places`). Assumes nothing.
+-- `starts::bancroft::with_places` meets its contract: each return is one case of `lambdas`: no root, one or two (`no-place`, `two-places`). Assumes nothing.
 use borrow.Author.Needs.{needs}
 use mathlib.Core.Path.{_∙_}
 use Rattle.starts.specs.Bancroft.{lambdas}
 use Rattle.starts.proofs.Constants.{tiny, four}
-use Rattle.starts.proofs.Packed.{no-place, one-place, two-places}
+use Rattle.starts.proofs.Packed.{no-place, two-places}
 use Rattle.starts.proofs.bancroft.with_places.Statement.{statement}
 use Rattle.starts.proofs.bancroft.with_places.Tie as tie
 
@@ -20,7 +20,7 @@ returns : tie.Need-returns
 unfolding lambdas
 returns c =
     let test = c .before .before .before in
-    rw (tiny, ← test .before .abs .ensures, test .if1 .taken, ← c .before .before .abs2 .ensures, c .before .if2 .taken) (c .with-place .ensures ∙ one-place _ _ _ _ _)
+    rw (tiny, ← test .before .abs .ensures, test .if1 .taken, ← c .before .before .abs2 .ensures, c .before .if2 .taken) (c .with-place .ensures)
 
 returns-2 : tie.Need-returns-2
 unfolding lambdas

@@ -1,6 +1,5 @@
 -- `starts::lifted::sent` meets its contract: each callee ensures its part. Assumes nothing.
 use borrow.Author.Needs.{needs}
-use Rattle.starts.specs.Lifted.{sent}
 use Rattle.starts.proofs.lifted.sent.Statement.{statement}
 use Rattle.starts.proofs.lifted.sent.Tie as tie
 
@@ -20,7 +19,6 @@ norm-requires : tie.Need-norm-requires
 norm-requires c κs = search needs
 
 returns : tie.Need-returns
-unfolding sent
 returns c = rw (c .norm .ensures, c .before .sub .ensures, c .before .before .site .ensures)
 
 pub sent-spec : {M : Type 1} → statement M
