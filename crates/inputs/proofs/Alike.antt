@@ -20,7 +20,7 @@ use Rattle.inputs.specs.declared.Given.{Given}
 use Rattle.inputs.specs.declared.Check.{Check}
 use Rattle.inputs.specs.Faults.{firstTo}
 use Rattle.inputs.specs.Domain.{goodReception}
-use Rattle.inputs.specs.Inputs.{Inputs, inputsOf, ascends, checkReception, checkInputs, metresOf, problemOf}
+use Rattle.inputs.specs.Inputs.{Inputs, inputsOf, ascends, checkReception, whole, checkInputs, metresOf, problemOf}
 use Rattle.inputs.proofs.Sound.{made}
 
 good-alike : (r s : Reception) → Alike r s → goodReception r ≡ goodReception s
@@ -77,12 +77,12 @@ module _ (f : Fields) (n : ℕ) (at : ℕ → Reception) (filled : n ≤ 32 → 
   pub nothing-else : n ≤ 32 → f ≡ fieldsOf (receptionIn f) n
   nothing-else few = filled few ∙ sym (fields-alike (receptionIn f) at n (held few))
 
-  module _ (whole : Bool) (g : Given) (clock altitude reference : List ℕ) where
+  module _ (came : Bool) (g : Given) (clock altitude reference : List ℕ) where
     abbrev I : (ℕ → Reception) → Inputs
-    I from = inputsOf whole n from g clock altitude reference
+    I from = inputsOf came n from g clock altitude reference
 
     pub same-check : checkInputs (I (receptionIn f)) ≡ checkInputs (I at)
-    unfolding checkInputs
+    unfolding checkInputs whole
     same-check = go (leb n 32) refl
       where
         go : (b : Bool) → leb n 32 ≡ b → checkInputs (I (receptionIn f)) ≡ checkInputs (I at)

@@ -3,7 +3,8 @@ use Prim.Native.Nat.{ℕ, zero, suc, _*_, _<_, _≤_}
 use mathlib.Core.Path.{_≡_, refl}
 use mathlib.Core.Bool.{Bool, true, false, _&&_}
 use mathlib.Core.Logic.{_⊎_, inl, inr}
-use mathlib.Core.List.{List}
+use mathlib.Core.List.{List, []}
+use mathlib.Core.Option.{Option·getD}
 use native.Mathlib.Omega.{arith}
 use native.Mathlib.Nat.{eq-or-lt-of-le}
 use borrow.Author.Tests.{eqb-true, leb-true}
@@ -14,7 +15,7 @@ use Rattle.inputs.specs.declared.Fault.the-variants.{TornInput, TooMany,
 use Rattle.inputs.specs.declared.Check.{Check}
 use Rattle.inputs.specs.declared.Check.the-variants.{Passed, Refused}
 use Rattle.inputs.specs.Faults.{orElse, unless, firstTo}
-use Rattle.inputs.specs.Inputs.{Inputs, given, bytesOf, sized, whole, checkReception, checkRow, checkClock, checkAltitude, checkCovered, checkInputs}
+use Rattle.inputs.specs.Inputs.{Inputs, given, sized, whole, checkReception, checkRow, checkClock, checkAltitude, checkCovered, checkInputs}
 
 pub both-of : (a b : Bool) → a && b ≡ true → (a ≡ true) × (b ≡ true)
 both-of true true e = (refl, refl)
@@ -123,7 +124,7 @@ module _ (I : Inputs) where
     whole-reference = both-of (sized 16 (I .altitude)) (sized 8 (I .reference)) (parts .1) .1
 
 -- a clock that is there has its size, and its rows pass
-pub clock-of : (there : Bool) (b : List ℕ) (n : ℕ) → checkClock (given there b) n ≡ Passed → checkCovered (given there b) ≡ Passed → (bytesOf (given there b) ≡ b) × (length b ≡ 8 * (n * n)) × (firstTo (checkRow b n) n ≡ Passed)
+pub clock-of : (there : Bool) (b : List ℕ) (n : ℕ) → checkClock (given there b) n ≡ Passed → checkCovered (given there b) ≡ Passed → (Option·getD (given there b) [] ≡ b) × (length b ≡ 8 * (n * n)) × (firstTo (checkRow b n) n ≡ Passed)
 clock-of true b n e f =
     let p = or-of (unless (eqb (length b) (8 * (n * n))) ClockSize) (firstTo (checkRow b n) n) e in
     (refl, eqb-true (length b) (8 * (n * n)) (good-of _ ClockSize (p .0)), p .1)

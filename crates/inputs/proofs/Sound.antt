@@ -3,8 +3,8 @@ use Prim.Native.Nat.{ℕ, zero, suc, _+_, _*_, _-_, _/_, _%_, _<_, _≤_}
 use mathlib.Core.Path.{_≡_, refl, ap₂, sym, subst}
 use mathlib.Core.Bool.{Bool, true, false, cond, _&&_, _||_}
 use mathlib.Core.Logic.{_⊎_, inl, inr}
-use mathlib.Core.List.{List}
-use mathlib.Core.Option.{Option, none, some}
+use mathlib.Core.List.{List, []}
+use mathlib.Core.Option.{Option, none, some, Option·getD}
 use native.Mathlib.Omega.{arith}
 use native.Mathlib.Nat.{eq-or-lt-of-le}
 use borrow.Author.Tests.{ltb-true, le-leb}
@@ -27,7 +27,7 @@ use Rattle.inputs.specs.declared.Given.{Given}
 use Rattle.inputs.specs.Faults.{unless, firstTo}
 use Rattle.words.specs.Words.{u64At, f64At}
 use Rattle.inputs.specs.Domain.{goodTime, goodCoordinate, goodSite, goodZ, goodNoise, goodReception, goodEntry, goodMetres, goodAltitude}
-use Rattle.inputs.specs.Inputs.{entryAt, Inputs, inputsOf, ascends, checkReception, goodRowTo, checkRow, checkAltitude, checkInputs, metresOf, upperAt, covarianceOf, bytesOf, altitudeOf, referenceOf, problemOf}
+use Rattle.inputs.specs.Inputs.{entryAt, Inputs, inputsOf, ascends, checkReception, goodRowTo, checkRow, checkAltitude, checkInputs, metresOf, upperAt, altitudeOf, referenceOf, problemOf}
 use Rattle.inputs.specs.InDomain.{InDomain, Ascending, altitudeGood}
 use Rattle.inputs.proofs.Order.{both-of, good-of, or-of, few, passed-receptions, passed-clock, passed-altitude, is-covered, clock-of, first-of}
 use Rattle.receptions.proofs.Filling.{fill-at}
@@ -108,6 +108,9 @@ metres-good (some a) e = go (eqb (u64At a 0) 1) (tested (u64At a 0) (f64At a 8) 
     go false f = f
 
 -- ---- all that was read
+abbrev covarianceOf : List ℕ → ℕ → List Float
+covarianceOf clock n = fillTo (floats 1024) (upperAt clock n) (n * n)
+
 module _ (n : ℕ) (from : ℕ → Reception) (g : Given) (b alt ref : List ℕ) where
   abbrev I : Inputs
   I = inputsOf true n from g b alt ref
@@ -129,10 +132,10 @@ module _ (n : ℕ) (from : ℕ → Reception) (g : Given) (b alt ref : List ℕ)
         rw (fill-at (wholes 96) (λ k. getD (from (k / 3) .«site_mm») (k % 3) (pos 0)) (3 * n) k (pos 0) h (rw length-replicate (omega arith)))
         (coordinate-good from (k / 3) (passes (k / 3) (omega arith)) (k % 3) (omega arith))
 
-    pub clock-whole : (bytesOf (I .clock) ≡ b) × (length b ≡ 8 * (n * n)) × (firstTo (checkRow b n) n ≡ Passed)
+    pub clock-whole : (Option·getD (I .clock) [] ≡ b) × (length b ≡ 8 * (n * n)) × (firstTo (checkRow b n) n ≡ Passed)
     clock-whole = clock-of (g .clock) b n (passed-clock I e) (is-covered I e)
 
-    clock-good : (i j : ℕ) → i ≤ j → j < n → goodEntry i j (at (covarianceOf (bytesOf (I .clock)) n) n i j) ≡ true
+    clock-good : (i j : ℕ) → i ≤ j → j < n → goodEntry i j (at (covarianceOf (Option·getD (I .clock) []) n) n i j) ≡ true
     clock-good i j h l =
         let s = small in
         let w : i < n = omega arith in

@@ -38,7 +38,6 @@ goodNoise = within (decimal 1 6) (decimal 1000000000000 0)
 
 -- all of these, and zero bytes
 unfoldable pub goodReception : Reception → Bool
-unfolding goodZ goodNoise
 goodReception r = goodTime (r .time) && (goodSite (r .«site_mm») && ((goodZ (r .z) && goodNoise (r .«noise_m2»)) && eqb (r .filler) 0))
 
 -- "clock diagonal 0 to 10^12, the entries right of it within ±10^12": the entry x in row i and column j
@@ -51,5 +50,4 @@ goodMetres = let limit = decimal 100000 0 in within (neg limit) limit
 
 -- "altitude kind 1 or 2"
 unfoldable pub goodAltitude : ℕ → Float → Bool
-unfolding goodMetres
 goodAltitude kind metres = (eqb kind 1 || eqb kind 2) && goodMetres metres

@@ -1,7 +1,7 @@
 -- The four inputs of a solve: the refusal that they get, and the problem that they hold where they get none. Definitions only.
 use mathlib.Core.Bool.{Bool, true, cond, _&&_}
 use mathlib.Core.List.{List, []}
-use mathlib.Core.Option.{Option, none, some}
+use mathlib.Core.Option.{Option, none, some, Option·getD}
 use Prim.Native.Nat.{ℕ, zero, suc, _+_, _*_, _-_, _/_, _%_}
 use lib.Dec.{leb, ltb, eqb}
 use lib.IntN.{ℤ, pos}
@@ -57,7 +57,6 @@ ascends id (suc i) = ltb (id i) (id (suc i))
 
 -- "receptions one by one, 12 before 11": reception i
 unfoldable pub checkReception : (ℕ → Reception) → ℕ → Check
-unfolding goodReception ascends
 checkReception at i = orElse (unless (goodReception (at i)) (BadField i)) (unless (ascends (λ k. at k .id) i) (Disorder i))
 
 -- "`clock.bin`: n × n f64, m²": the entry in row i and column j
@@ -66,7 +65,6 @@ entryAt bytes n i j = f64At bytes (8 * (i * n + j))
 
 -- the first k entries of row i from the diagonal on. "Clock entries left of the diagonal are never read."
 unfoldable pub goodRowTo : List ℕ → ℕ → ℕ → ℕ → Bool
-unfolding goodEntry entryAt
 goodRowTo clock n i zero = true
 goodRowTo clock n i (suc k) = goodRowTo clock n i k && goodEntry i (i + k) (entryAt clock n i (i + k))
 
@@ -91,14 +89,11 @@ checkCovered (some clock) = Passed
 
 -- "Order: 14, 15, 10; receptions one by one, 12 before 11; 13; clock entries by rows; altitude; then the Rust's order, where 7 comes first." The output's 14 is the caller's.
 unfoldable pub checkInputs : Inputs → Check
-unfolding whole firstTo checkReception goodRowTo goodAltitude
 checkInputs I =
     orElse (unless (whole I) TornInput)
     (orElse (unless (leb (I .n) 32) TooMany)
     (orElse (firstTo (checkReception (I .at)) (I .n))
-    (orElse (checkClock (I .clock) (I .n))
-    (orElse (checkAltitude (I .altitude))
-    (checkCovered (I .clock))))))
+    (orElse (checkClock (I .clock) (I .n)) (orElse (checkAltitude (I .altitude)) (checkCovered (I .clock))))))
 
 -- ---- the problem
 
@@ -108,15 +103,7 @@ metresOf at n = fillTo (floats 96) (λ k. nth (fromMm (at (k / 3) .«site_mm»))
 
 -- entry k of the clock covariance, row by row: 0 left of the diagonal
 unfoldable pub upperAt : List ℕ → ℕ → ℕ → Float
-unfolding entryAt
 upperAt clock n k = cond (leb (k / n) (k % n)) (entryAt clock n (k / n) (k % n)) nought
-
-abbrev pub covarianceOf : List ℕ → ℕ → List Float
-covarianceOf clock n = fillTo (floats 1024) (upperAt clock n) (n * n)
-
-abbrev pub bytesOf : Option (List ℕ) → List ℕ
-bytesOf none = []
-bytesOf (some bytes) = bytes
 
 abbrev pub altitudeOf : Option (List ℕ) → Altitude
 altitudeOf none = None
@@ -129,10 +116,8 @@ referenceOf (some reference) = i64At reference 0
 
 -- where nothing turns them away
 unfoldable pub problemOf : Inputs → Problem
-unfolding fieldsOf fillTo upperAt
 problemOf I =
-    let n = I .n in
-    let f = fieldsOf (I .at) n in
+    let n = I .n in let f = fieldsOf (I .at) n in
     record {
       n = n;
       time = f .time;
@@ -140,7 +125,7 @@ problemOf I =
       site = metresOf (I .at) n;
       z = f .z;
       «noise_m2» = f .«noise_m2»;
-      «clock_m2» = covarianceOf (bytesOf (I .clock)) n;
+      «clock_m2» = fillTo (floats 1024) (upperAt (Option·getD (I .clock) []) n) (n * n);
       altitude = altitudeOf (I .altitude);
       «reference_ps» = referenceOf (I .reference);
     }

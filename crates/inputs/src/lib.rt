@@ -9,7 +9,7 @@ ghost use Prim.Native.Nat.{_+_, _*_, _-_, _<_, _≤_};
 ghost use lib.IntN.{pos};
 ghost use lib.ListN.{length, set, getD};
 ghost use Rattle.dense.specs.Entries.{nth};
-ghost use Rattle.receptions.specs.Receptions.{fieldsOf, receptionIn};
+ghost use Rattle.receptions.specs.Receptions.{fillTo, floats, fieldsOf, receptionIn};
 ghost use Rattle.inputs.specs.declared.Fault.the-variants.{Disorder, BadField};
 ghost use Rattle.inputs.specs.Faults as faults;
 ghost use Rattle.inputs.specs.Domain.{goodReception};
@@ -279,7 +279,7 @@ fn upper_at(clock: &[u8], n: usize, k: usize) -> f64
 // The clock covariance of n receptions.
 fn covariance_of(clock: &[u8], n: usize) -> [f64; 1024]
     requires { ⌜ (n ≤ 32) × (length (now clock) ≡ 8 * (n * n)) ⌝ }
-    ensures { λ r. ⌜ r ≡ inputs.covarianceOf (now (clock .entry)) n ⌝ }
+    ensures { λ r. ⌜ r ≡ fillTo (floats 1024) (inputs.upperAt (now (clock .entry)) n) (n * n) ⌝ }
 {
     let mut out = [0.0; 1024];
     for k in 0..n * n {
