@@ -3,10 +3,10 @@ use mathlib.Core.Path.{_≡_, refl, sym, ap, subst, _∙_}
 use mathlib.Core.Logic.{_⊎_, inl, inr}
 use mathlib.Core.Bool.{Bool, true, false, not, cond, _&&_}
 use mathlib.Core.List.{List, [], _∷_}
-use Prim.Native.Nat.{ℕ, zero, suc, _+_, _*_, _^_}
-use lib.Dec.{T, ltb}
+use Prim.Native.Nat.{ℕ, zero, suc}
+use lib.Dec.{T}
 use lib.ListN.{replicate}
-use lib.Ieee.{Float, Format, binary64, nan, inf, fin, round, units, odd, sum, add, sub, mul, div, neg, lt, le, isNan, ofBits, low, emax, prec}
+use lib.Ieee.{Float, Format, binary64, nan, inf, fin, sum, add, sub, mul, div, neg, lt, le, isNan, ofBits}
 use Rattle.binary64.specs.Steps.{_⊕_, _⊗_, decimal, nought, abs, isFinite}
 use Rattle.sets.proofs.Tests.{and-l, and-r}
 use Rattle.dense.specs.Entries.{nth, minusDots}
@@ -21,53 +21,15 @@ use Rattle.damped.specs.declared.Lm.{Lm}
 use Rattle.damped.specs.declared.Stepped.{Stepped}
 use Rattle.damped.specs.declared.Verdict.the-variants.{Accepted, Converged, Rejected, Stopped, Failed}
 use Rattle.damped.specs.Damped.{dampedTo, solved, descent, moved, below, small, better, accepted, rejected, step, fitted, unfitted, plain, after, run, started, levenbergMarquardt}
+use Rattle.damped.proofs.Squares.{clear, add-clear, square-clear}
 
 -- ---- sums of squares
-
--- a number with its sign clear
-abbrev clear : Float → Bool
-clear nan = false
-clear (inf s) = not s
-clear (fin s m e) = not s
 
 clear-number : (x : Float) → T (clear x) → T (not (isNan x))
 unfolding isNan
 clear-number nan h = h
 clear-number (inf s) h = tt
 clear-number (fin s m e) h = tt
-
-odd-clear : (d q k l : ℕ) → T (clear (odd d false q k l))
-unfolding odd
-odd-clear d zero k l = tt
-odd-clear d (suc q) k l = tt
-
-units-clear : (f : Format) (q k : ℕ) → T (clear (units f false q k))
-unfolding units
-units-clear f q k = go (ltb (q * 2 ^ k) (2 ^ (low f + suc (emax f))))
-  where
-    go : (b : Bool) → T (clear (cond b (odd (suc (prec f)) false q k (low f)) (inf false)))
-    go true = odd-clear (suc (prec f)) q k (low f)
-    go false = tt
-
-round-clear : (f : Format) (num den : ℕ) → T (clear (round f false num den))
-unfolding round
-round-clear f num den = units-clear f _ _
-
-add-clear : (f : Format) (x y : Float) → T (clear x) → T (clear y) → T (clear (add f x y))
-unfolding add sum
-add-clear f (inf false) (inf false) h k = tt
-add-clear f (inf false) (fin false n d) h k = tt
-add-clear f (fin false m e) (inf false) h k = tt
-add-clear f (fin false m e) (fin false n d) h k = round-clear f _ _
-
--- a square is clear, or that of no number
-square-clear : (f : Format) (x : Float) → T (clear (mul f x x)) ⊎ (x ≡ nan)
-unfolding mul
-square-clear f nan = inr refl
-square-clear f (inf true) = inl tt
-square-clear f (inf false) = inl tt
-square-clear f (fin true m e) = inl (round-clear f _ _)
-square-clear f (fin false m e) = inl (round-clear f _ _)
 
 mul-none : (f : Format) (x : Float) → mul f x nan ≡ nan
 unfolding mul

@@ -1,9 +1,9 @@
 -- A cost whose part lies above a limit is not better than the limit. Assumes nothing.
 use mathlib.Core.Path.{_≡_, refl, sym, ap, subst, _∙_}
 use mathlib.Core.Logic.{_⊎_, inl, inr}
-use mathlib.Core.Bool.{Bool, true, false, not, _&&_, false≢true}
-use mathlib.Core.List.{List, []}
-use Prim.Native.Nat.{ℕ, _+_, _≤_, _<_}
+use mathlib.Core.Bool.{Bool, true, false, not}
+use mathlib.Core.List.{List}
+use Prim.Native.Nat.{_≤_, _<_}
 use native.Mathlib.Omega.{arith}
 use lib.Dec.{T}
 use lib.ListN.{length}
@@ -11,11 +11,10 @@ use lib.Ieee.Bits.{is-true}
 use lib.Ieee.{Float, binary64, nan, inf, fin, lt, le, isNan, fits}
 use Rattle.binary64.specs.Steps.{_⊕_, _⊗_, isFinite}
 use Rattle.sets.proofs.Tests.{and-l, and-r}
-use Rattle.dense.specs.Entries.{nth}
 use Rattle.geo.specs.declared.Geodetic.{Geodetic}
 use Rattle.problem.specs.declared.Altitude.{Altitude}
 use Rattle.problem.specs.declared.Altitude.the-variants.{None, Barometric, Gnss}
-use Rattle.whitening.specs.Whitened.{Chosen, Rows, rows, blank, raw, pushAltitude, whitenedColumn, whitened}
+use Rattle.whitening.specs.Whitened.{Chosen, Rows, blank, raw, pushAltitude, whitenedColumn, whitened}
 use Rattle.whitening.specs.Normal.{costTo, evaluated}
 use Rattle.whitening.proofs.Joined.{received}
 use Rattle.whitening.proofs.Costs.{cost-is, cost-more, room-left}

@@ -7,11 +7,10 @@ use Prim.Native.Nat.{ℕ, zero, suc, _+_, _*_, _^_, _≤_, _<_}
 use native.Mathlib.Nat.{le-trans, le-of-eq, le-add-right, mul-assoc, mul-right-comm, mul-le-mul-right, mul-pos}
 use lib.Dec.{T, ltb}
 use lib.Pow.{pow-pos}
-use lib.IntN.{ℤ}
-use lib.Ieee.{Float, Format, binary64, nan, inf, fin, up, down, round, units, odd, sum, add, mul, le, isNan, fits, ofBits, low, emax, prec}
+use lib.Ieee.{Float, Format, binary64, nan, inf, fin, up, down, round, units, odd, sum, add, mul, le, fits, ofBits, low, emax, prec}
 use lib.Ieee.Fits.{down-pos, round-fits, add-fits}
 use lib.Ieee.Bits.{ofBits-fits}
-use lib.Ieee.Exact.{HasValue, round-exact}
+use lib.Ieee.Exact.{round-exact}
 use lib.Ieee.Order.{round-mono}
 use Rattle.binary64.specs.Steps.{_⊕_, _⊗_, isFinite}
 use Rattle.binary64.proofs.Held.{in-units, is-held, same-units}

@@ -5,7 +5,7 @@ use Prim.Native.Nat.{ℕ}
 use lib.Dec.{eqb}
 use lib.IntN.{ℤ, pos, negsuc}
 use lib.Ieee.{fin, binary64, toBits}
-use Rattle.binary64.specs.Steps.{#, decimal, nought}
+use Rattle.binary64.specs.Steps.{decimal, nought}
 use Rattle.binary64.specs.Root.{root}
 use Rattle.binary64.specs.Rounding.{halfAway}
 use Rattle.screen.specs.Pair.{Site, baseline, passes}

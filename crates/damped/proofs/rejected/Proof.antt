@@ -1,5 +1,4 @@
 -- `damped::rejected` meets its contract. Only lambda changes, and its test picks the verdict. Assumes nothing.
-use borrow.Author.Needs.{needs}
 use Rattle.damped.specs.Damped.{rejected}
 use Rattle.damped.proofs.Constants.{most-bits, ten-bits}
 use Rattle.damped.proofs.rejected.Statement.{statement}

@@ -1,4 +1,4 @@
--- `entry::given` meets its contract. `entry::given` meets its contract: a test for each bit. Assumes nothing. Assumes nothing.
+-- `entry::given` meets its contract: a test for each bit. Assumes nothing.
 use borrow.Author.Needs.{needs}
 use Rattle.entry.proofs.given.Statement.{statement}
 use Rattle.entry.proofs.given.Tie as tie

@@ -1,4 +1,4 @@
--- `entry::reply_to` meets its contract. `entry::reply_to` meets its contract: what the checks refuse is turned away, and what passes is a problem (`Replies`). Assumes nothing. Assumes nothing.
+-- `entry::reply_to` meets its contract: what the checks refuse is turned away, and what passes is a problem (`Replies`). Assumes nothing.
 use borrow.Author.Needs.{needs}
 use mathlib.Core.Path.{_≡_, sym, ap, _∙_}
 use native.Mathlib.Omega.{arith}

@@ -1,8 +1,7 @@
--- `entry::solve` meets its contract. `entry::solve` meets its contract: its receptions by field get the reply of its bytes (`Unpacked`). Assumes nothing. Assumes nothing.
+-- `entry::solve` meets its contract: its receptions by field get the reply of its bytes (`Unpacked`). Assumes nothing.
 use borrow.Author.Needs.{needs}
 use Rattle.receptions.specs.Receptions.{fieldsOf, receptionAt}
 use mathlib.Core.Path.{ap, _∙_}
-use native.Mathlib.Omega.{arith}
 use Rattle.inputs.proofs.Alike.{nothing-else}
 use Rattle.entry.specs.Reply.{given}
 use Rattle.entry.proofs.Unpacked.{solved}

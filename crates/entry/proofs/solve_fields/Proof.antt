@@ -1,4 +1,4 @@
--- `entry::solve_fields` meets its contract. `entry::solve_fields` meets its contract: the answer and the output are the reply's, and demand 3 holds of its bytes (`Written`). Assumes nothing. Assumes nothing.
+-- `entry::solve_fields` meets its contract: the answer and the output are the reply's, and demand 3 holds of its bytes (`Written`). Assumes nothing.
 use borrow.Author.Needs.{needs}
 use mathlib.Core.Path.{_≡_, ap, _∙_}
 use native.Mathlib.Omega.{arith}

@@ -1,4 +1,4 @@
--- `inputs::ascends` meets its contract. `inputs::ascends` meets its contract: the first has none before it; any other is compared with that one. Assumes nothing. Assumes nothing.
+-- `inputs::ascends` meets its contract: the first has none before it; any other is compared with that one. Assumes nothing.
 use borrow.Author.Needs.{needs}
 use Rattle.inputs.proofs.Steps.{ascends-zero, ascends-next}
 use lib.ListN.{getD}

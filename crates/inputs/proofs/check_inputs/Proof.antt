@@ -1,4 +1,4 @@
--- `inputs::check_inputs` meets its contract. `inputs::check_inputs` meets its contract: in the order of the definition (`torn`, `many`, `rest`). Assumes nothing. Assumes nothing.
+-- `inputs::check_inputs` meets its contract: in the order of the definition (`torn`, `many`, `rest`). Assumes nothing.
 use borrow.Author.Needs.{needs}
 use mathlib.Core.Path.{sym, _∙_}
 use borrow.Author.Tests.{not-true, not-false, le-leb, lt-leb}

@@ -1,4 +1,4 @@
--- `inputs::check_reception` meets its contract. `inputs::check_reception` meets its contract: by its parts. Assumes nothing. Assumes nothing.
+-- `inputs::check_reception` meets its contract: by its parts. Assumes nothing.
 use borrow.Author.Needs.{needs}
 use mathlib.Core.Path.{_∙_}
 use Rattle.inputs.proofs.check_reception.Statement.{statement}

@@ -1,6 +1,6 @@
--- `inputs::check_receptions` meets its contract. `inputs::check_receptions` meets its contract: each turn adds the next reception's check (`first-next`). Assumes nothing. Assumes nothing.
+-- `inputs::check_receptions` meets its contract: each turn adds the next reception's check (`first-next`). Assumes nothing.
 use borrow.Author.Needs.{needs}
-use mathlib.Core.Path.{_≡_, refl, _∙_}
+use mathlib.Core.Path.{_≡_, refl}
 use Prim.Native.Nat.{_-_, _≤_}
 use native.Mathlib.Omega.{arith}
 use Rattle.receptions.specs.Receptions.{receptionIn}

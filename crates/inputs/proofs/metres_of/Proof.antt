@@ -1,4 +1,4 @@
--- `inputs::metres_of` meets its contract. `inputs::metres_of` meets its contract: each turn stores the next site's three (`metres-next`). Assumes nothing. Assumes nothing.
+-- `inputs::metres_of` meets its contract: each turn stores the next site's three (`metres-next`). Assumes nothing.
 use borrow.Author.Needs.{needs}
 use mathlib.Core.Path.{_≡_, refl}
 use Prim.Native.Nat.{_-_, _≤_}

@@ -1,5 +1,4 @@
--- `inputs::problem_of` meets its contract. `inputs::problem_of` meets its contract: what passed is whole and small enough to be read (`Order`), and in the domain (`Sound`). Assumes nothing. Assumes nothing.
-use borrow.Author.Needs.{needs}
+-- `inputs::problem_of` meets its contract: what passed is whole and small enough to be read (`Order`), and in the domain (`Sound`). Assumes nothing.
 use mathlib.Core.Path.{_∙_}
 use mir.Syntax.{w64}
 use mir.ValLaws.{toZ-ofZ}

@@ -1,4 +1,4 @@
--- `inputs::site_in` meets its contract. `inputs::site_in` meets its contract: the places lie in the array. Assumes nothing. Assumes nothing.
+-- `inputs::site_in` meets its contract: the places lie in the array. Assumes nothing.
 use borrow.Author.Needs.{needs}
 use lib.ListN.{getD}
 use lib.IntN.{pos}

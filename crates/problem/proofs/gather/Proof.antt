@@ -1,7 +1,7 @@
 -- After a turns the first a values stand in their places; each index is below 32 by what is asked.
 use borrow.Author.Needs.{needs}
 use mathlib.Core.Path.{_≡_, refl}
-use Prim.Native.Nat.{ℕ, _≤_, _-_}
+use Prim.Native.Nat.{_≤_, _-_}
 use native.Mathlib.Numerals.{add-one}
 use native.Mathlib.Omega.{arith}
 use Rattle.problem.specs.Gathered.{gatherTo}

@@ -1,4 +1,4 @@
--- `test_inputs::answers` meets its contract. `test_inputs::answers` meets its contract: a problem is made where the check passed (`is-passed`). Assumes nothing. Assumes nothing.
+-- `test_inputs::answers` meets its contract: a problem is made where the check passed (`is-passed`). Assumes nothing.
 use borrow.Author.Needs.{needs}
 use mathlib.Core.Path.{_≡_, sym, subst, _∙_}
 use mathlib.Core.Bool.{Bool}

@@ -1,4 +1,4 @@
--- `test_inputs::unpacked` meets its contract. `test_inputs::unpacked` meets its contract: by the test. Assumes nothing. Assumes nothing.
+-- `test_inputs::unpacked` meets its contract: by the test. Assumes nothing.
 use borrow.Author.Needs.{needs}
 use native.Mathlib.Omega.{arith}
 use Rattle.test_inputs.proofs.unpacked.Statement.{statement}

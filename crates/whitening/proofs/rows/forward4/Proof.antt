@@ -1,7 +1,7 @@
 -- `whitening::rows::forward4` meets its contract. The invariant: each array is solved in its rows below i, and the others hold what they brought (`forward-row`). The measure is what is left of n. Assumes nothing.
 use borrow.Author.Needs.{needs}
 use mathlib.Core.Path.{_≡_, refl, _∙_}
-use Prim.Native.Nat.{_≤_, _<_, _+_, _*_, _-_}
+use Prim.Native.Nat.{_≤_, _-_}
 use native.Mathlib.Omega.{arith}
 use Rattle.dense.specs.Solve.{forwardTo}
 use Rattle.dense.proofs.Places.{place, room}
