@@ -26,16 +26,21 @@ fn sin_of(y: Reduced) -> f64
     -k_cos(y.y0, y.y1)
 }
 
-// The cosine of n * pi/2 + y is the sine a quarter turn on: s_cos.c's `switch(n&3)` is s_sin.c's, one
-// case on.
+// The cosine of n * pi/2 + y: s_cos.c's `switch(n&3)`.
 fn cos_of(y: Reduced) -> f64
     ensures { λ r. ⌜ r ≡ quadrant y .cos ⌝ }
 {
-    sin_of(Reduced {
-        n: y.n % 4 + 1,
-        y0: y.y0,
-        y1: y.y1,
-    })
+    let n = y.n % 4;
+    if n == 0 {
+        return k_cos(y.y0, y.y1);
+    }
+    if n == 1 {
+        return -k_sin(y.y0, y.y1, 1);
+    }
+    if n == 2 {
+        return -k_cos(y.y0, y.y1);
+    }
+    k_sin(y.y0, y.y1, 1)
 }
 
 // The sine of x; not-a-number beyond ±7.
