@@ -4,13 +4,14 @@ use mathlib.Core.Logic.{inl, inr}
 use Prim.Native.Nat.{ℕ, suc, _+_, _-_, _*_, _/_, _^_, _≤_, _<_}
 use native.Mathlib.Nat.{le-of-eq, lt-of-le-of-lt, eq-or-lt-of-le, zero-add, mul-le-mul-right, mul-div-cancel}
 use native.Mathlib.Omega.{arith}
-use mathlib.Core.Bool.{Bool, false, cond}
-use lib.Dec.{T, ltb, lt→ltb, lit<, lit≤}
+use mathlib.Core.Bool.{false}
+use lib.Dec.{T, lit<, lit≤}
+use borrow.Author.Tests.{lt-ltb}
 use lib.Pow.{pow-add, pow-pos, pow-lt, shl-lt}
-use lib.Ieee.{Float, nan, inf, fin, binary64, up, down, size, odd, units, fits, top, ofBits, toBits}
+use lib.Ieee.{Float, nan, inf, fin, binary64, up, down, size, odd, units, fits, ofBits, toBits}
 use lib.Ieee.Fits.{odd-fits, down-pos}
 use lib.Ieee.Exact.{HasValue, odd-sign}
-use lib.Ieee.Bits.{is-true, ofBits-toBits}
+use lib.Ieee.Bits.{ofBits-toBits}
 use Rattle.binary64.proofs.RootLaw.{size-is}
 
 -- the bits of a value that is not negative, by its size a in units
@@ -23,13 +24,11 @@ toBits-value nan a h = absurd h
 toBits-value (inf s) a h = absurd h
 toBits-value (fin s m e) a h =
     let n : m * up e * 2 ^ 1074 / down e ≡ a = ap (λ (x : ℕ). x / down e) (h .1) ∙ mul-div-cancel a (down-pos e) in
-    ap (λ (t : Bool). cond t (top binary64) 0 + (size (m * up e * 2 ^ 1074 / down e) - 53) * 2 ^ 52 + m * up e * 2 ^ 1074 / down e / 2 ^ (size (m * up e * 2 ^ 1074 / down e) - 53)) (h .0)
-    ∙ ap (λ (x : ℕ). 0 + (size x - 53) * 2 ^ 52 + x / 2 ^ (size x - 53)) n
-    ∙ ap (λ (x : ℕ). x + a / 2 ^ (size a - 53)) (zero-add ((size a - 53) * 2 ^ 52))
+    rw (h .0, n, zero-add)
 
 units-odd : (r h : ℕ) → r * 2 ^ h < 2 ^ 2098 → units binary64 false r h ≡ odd 54 false r h 1074
 unfolding units
-units-odd r h l = ap (λ (b : Bool). cond b (odd 54 false r h 1074) (inf false)) (is-true (ltb (r * 2 ^ h) (2 ^ 2098)) (lt→ltb (r * 2 ^ h) (2 ^ 2098) l))
+units-odd r h l = rw (lt-ltb (r * 2 ^ h) (2 ^ 2098) l)
 
 -- how many digits are dropped, and what is kept, where r has 53 digits, and where it is 2 ^ 53
 written-mid : (r h : ℕ) → 2 ^ 52 ≤ r → r < 2 ^ 53 → written (r * 2 ^ h) (size (r * 2 ^ h) - 53) ≡ h * 2 ^ 52 + r

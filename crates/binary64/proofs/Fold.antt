@@ -1,7 +1,7 @@
 -- The square of an r up to 2 ^ 53 by its two digits in base 2 ^ 26. Assumes nothing.
 use mathlib.Core.Path.{_≡_, sym, ap, _∙_}
 use Prim.Native.Nat.{ℕ, _+_, _*_, _/_, _^_, _≤_}
-use native.Mathlib.Nat.{mul-le-mul, mul-add, add-mul, mul-assoc, mul-comm, mul-left-comm, add-assoc, mul-add-div-right}
+use native.Mathlib.Nat.{mul-le-mul, add-assoc, mul-add-div-right}
 use native.Mathlib.Omega.{arith}
 use lib.Pow.{pow-pos, split, shr-shr}
 use lib.Bits.{bitAnd, and-mask}
@@ -22,31 +22,7 @@ small r h =
     record { a-le = x; b-le = y; aa = mul-le-mul x x; ab = mul-le-mul z y; bb = mul-le-mul y y }
 
 square : (P a b c r : ℕ) → a * P + b ≡ r → r * r + c ≡ (a * a * P + 2 * a * b) * P + (b * b + c)
-square P a b c r e =
-    ap (λ (x : ℕ). x * x + c) (sym e)
-    ∙ ap (λ (x : ℕ). x + c) (digits P a b)
-    ∙ add-assoc ((a * a * P + 2 * a * b) * P) (b * b) c
-  where
-    digits : (P a b : ℕ) → (a * P + b) * (a * P + b) ≡ (a * a * P + 2 * a * b) * P + b * b
-    digits P a b = omega (
-      arith,
-      mul-add (a * P + b) (a * P) b,
-      add-mul (a * P) b (a * P),
-      add-mul (a * P) b b,
-      add-mul (a * a * P) (2 * a * b) P,
-      aapp,
-      abp,
-      bap,
-    )
-      where
-        aapp : a * P * (a * P) ≡ a * a * P * P
-        aapp = simp (mul-assoc, mul-comm, mul-left-comm)
-
-        abp : 2 * a * b * P ≡ 2 * (a * P * b)
-        abp = simp (mul-assoc, mul-comm, mul-left-comm)
-
-        bap : b * (a * P) ≡ a * P * b
-        bap = mul-comm b (a * P)
+square P a b c r e = rw (← e) (omega arith)
 
 pub fold-law : (r c : ℕ) → let a = r / 2 ^ 26 in let b = bitAnd r 0x3ff_ffff in a * a + (2 * a * b + (b * b + c) / 2 ^ 26) / 2 ^ 26 ≡ (r * r + c) / 2 ^ 52
 fold-law r c =

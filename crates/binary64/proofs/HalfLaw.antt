@@ -2,7 +2,7 @@
 use mathlib.Core.Path.{_≡_, refl, sym, ap, _∙_, subst}
 use mathlib.Core.Logic.{_⊎_, inl, inr}
 use Prim.Native.Nat.{ℕ, zero, suc, _+_, _-_, _*_, _/_, _^_, _≤_, _<_}
-use native.Mathlib.Nat.{lt-of-lt-of-le, zero-lt-suc, mul-one, mul-comm, mul-assoc, mul-left-comm, mul-right-comm, mul-mul-mul-comm, add-mul, mul-add, mul-pos, eq-of-mul-eq-mul-right, eq-or-lt-of-le, pow-succ', div-eq-of-lt}
+use native.Mathlib.Nat.{lt-of-lt-of-le, zero-lt-suc, mul-one, mul-comm, mul-left-comm, mul-right-comm, mul-pos, eq-of-mul-eq-mul-right, eq-or-lt-of-le, pow-succ', div-eq-of-lt}
 use native.Mathlib.Omega.{arith}
 use mathlib.Core.Bool.{Bool, true, false, cond}
 use lib.Dec.{T, ltb, eqb, lit≤}
@@ -15,10 +15,11 @@ use lib.Ieee.Nearest.{div-same}
 use lib.Ieee.Back.{whole-unique}
 use Rattle.binary64.specs.Rounding.{halfAway}
 use Rattle.binary64.proofs.Decode.{fields-low, fields-mid}
+use Rattle.binary64.proofs.Nearer.{coarse}
 
 -- ---- by the size a in units
 cross : (u d a L : ℕ) → u * L ≡ a * d → (2 * u + d) * (2 * L) ≡ (2 * a + L) * (2 * d)
-cross u d a L h = omega (arith, add-mul (2 * u) d (2 * L), add-mul (2 * a) L (2 * d), mul-mul-mul-comm 2 u 2 L, mul-mul-mul-comm 2 a 2 d, mul-left-comm d 2 L, mul-left-comm L 2 d, mul-comm d L)
+cross u d a L h = omega arith
 
 pub half-value : (v : Float) (s : Bool) (a : ℕ) → HasValue v s a (2 ^ 1074) → halfAway v ≡ round binary64 s ((2 * a + 2 ^ 1074) / (2 * 2 ^ 1074)) 1
 unfolding halfAway
@@ -59,10 +60,7 @@ small-half s (suc x) t l h =
 
 -- ---- from a half up to 2 ^ 52: with x = 1074 - k the size is m * 2 ^ (1073 - k) units, and 2 ^ 1074 is 2 ^ k * 2 ^ (1074 - k)
 pub mid-half : (s : Bool) (x t k : ℕ) → 1022 ≤ x → k + x ≡ 1074 → halfAway (ofFields binary64 s x t) ≡ round binary64 s ((t + 2 ^ 52 + 2 ^ k) / 2 ^ (k + 1)) 1
-mid-half s zero t k l e = absurd (none l)
-  where
-    none : 1022 ≤ 0 → ⊥
-    none l = omega arith
+mid-half s zero t k l e = absurd (omega arith)
 mid-half s (suc x) t k l e =
     half-value (ofFields binary64 s (suc x) t) s ((2 ^ 52 + t) * 2 ^ x) (fields-mid s x t (more x k e))
     ∙ ap (λ (q : ℕ). round binary64 s q 1)
@@ -82,13 +80,7 @@ mid-half s (suc x) t k l e =
     whole = ap (λ (y : ℕ). 2 ^ y) (sym e) ∙ pow-add 2 k (suc x) ∙ ap (λ (y : ℕ). 2 ^ k * y) (pow-succ' 2 x) ∙ mul-left-comm (2 ^ k) 2 (2 ^ x)
 
     same : (m m' X K L D : ℕ) → m ≡ m' → L ≡ 2 * (K * X) → D ≡ 2 * K → (2 * (m * X) + L) * D ≡ (m' + K) * (2 * L)
-    same m m' X K L D p q r =
-        ap (λ (y : ℕ). (2 * (m * X) + L) * y) r
-        ∙ ap (λ (y : ℕ). (2 * (m * X) + y) * (2 * K)) q
-        ∙ ap (λ (y : ℕ). y * (2 * K)) (sym (mul-add 2 (m * X) (K * X)) ∙ ap (λ (y : ℕ). 2 * y) (sym (add-mul m K X)))
-        ∙ simp (mul-assoc, mul-comm, mul-left-comm) refl
-        ∙ ap (λ (y : ℕ). (m + K) * (2 * y)) (sym q)
-        ∙ ap (λ (y : ℕ). (y + K) * (2 * L)) p
+    same m m' X K L D p q r = rw (p, q, r) (omega arith)
 
 -- ---- from 2 ^ 52 on a value is whole
 rescale : (v : Float) (s : Bool) (c : ℕ) → HasValue v s (c * 2 ^ 1074) (2 ^ 1074) → HasValue v s c 1
@@ -101,7 +93,7 @@ large s x t lo hi h f =
     let m = 2 ^ 52 + t in
     let c = m * 2 ^ (x - 1074) in
     let v = ofFields binary64 s (suc x) t in
-    let a : m * 2 ^ x ≡ c * 2 ^ 1074 = ap (λ (y : ℕ). m * y) (ap (λ (y : ℕ). 2 ^ y) (parts x lo) ∙ pow-add 2 (x - 1074) 1074) ∙ sym (mul-assoc m (2 ^ (x - 1074)) (2 ^ 1074)) in
+    let a : m * 2 ^ x ≡ c * 2 ^ 1074 = coarse m x 1074 (omega arith) in
     let hv : HasValue v s (c * 2 ^ 1074) (2 ^ 1074) = subst (λ (y : ℕ). HasValue v s y (2 ^ 1074)) a (fields-mid s x t hi) in
     let small : m < 2 ^ 53 = omega arith in
     let fine : m * 2 ^ x < 2 ^ 2098 = lt-of-lt-of-le (shl-lt 53 x small) (pow-mono (room x hi)) in
@@ -111,9 +103,6 @@ large s x t lo hi h f =
     (round-exact binary64 s c 1 m x (zero-lt-suc 0) small fine (sym a ∙ sym (mul-one (m * 2 ^ x))))
     (rescale v s c hv)
   where
-    parts : (x : ℕ) → 1075 ≤ suc x → x ≡ x - 1074 + 1074
-    parts x l = omega arith
-
     room : (x : ℕ) → suc x < 2047 → 53 + x ≤ 2098
     room x l = omega arith
 
@@ -132,10 +121,7 @@ top-half s t = go (eqb t 0)
     go false = refl
 
 pub large-half : (s : Bool) (x t : ℕ) → 1075 ≤ x → x ≤ 2047 → t < 2 ^ 52 → T (fits binary64 (ofFields binary64 s x t)) → halfAway (ofFields binary64 s x t) ≡ ofFields binary64 s x t
-large-half s zero t lo hi h f = absurd (none lo)
-  where
-    none : 1075 ≤ 0 → ⊥
-    none l = omega arith
+large-half s zero t lo hi h f = absurd (omega arith)
 large-half s (suc x) t lo hi h f = go (eq-or-lt-of-le hi)
   where
     go : (suc x ≡ 2047) ⊎ (suc x < 2047) → halfAway (ofFields binary64 s (suc x) t) ≡ ofFields binary64 s (suc x) t

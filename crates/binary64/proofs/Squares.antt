@@ -1,18 +1,18 @@
 -- Squares of whole numbers, and the whole number nearest to a root. Nothing here is about floats. Assumes nothing.
 use mathlib.Core.Path.{_≡_, subst}
 use Prim.Native.Nat.{ℕ, suc, _+_, _-_, _*_, _≤_, _<_}
-use native.Mathlib.Nat.{le-antisymm, lt-of-not-le, not-le-of-lt, le-of-suc-le-suc, add-mul, mul-add, mul-le-mul, mul-mul-mul-comm}
+use native.Mathlib.Nat.{le-antisymm, lt-of-not-le, not-le-of-lt, le-of-suc-le-suc, mul-le-mul}
 use native.Mathlib.Omega.{arith}
 use Rattle.binary64.specs.Root.{Nearest}
 
 pub sq-suc : (q : ℕ) → (q + 1) * (q + 1) ≡ q * q + 2 * q + 1
-sq-suc q = omega (arith, mul-add (q + 1) q 1, add-mul q 1 q)
+sq-suc q = omega arith
 
 pub sq-two : (q : ℕ) → 2 * q * (2 * q) ≡ 4 * (q * q)
-sq-two q = mul-mul-mul-comm 2 q 2 q
+sq-two q = omega arith
 
 pub sq-odd : (q : ℕ) → (2 * q + 1) * (2 * q + 1) ≡ 4 * (q * q) + 4 * q + 1
-sq-odd q = omega (arith, sq-suc (2 * q), sq-two q)
+sq-odd q = omega arith
 
 pub sq-lt : (a b : ℕ) → a * a < b * b → a < b
 sq-lt a b h = lt-of-not-le (λ (g : b ≤ a). not-le-of-lt h (mul-le-mul g g))

@@ -1,18 +1,14 @@
 -- `binary64::abs` meets its contract: the sign is the highest bit, and `abs` of the fields that are left has it clear (`abs-bits`). Assumes nothing.
-use mathlib.Core.Path.{_≡_, refl, sym, ap, _∙_, subst}
-use lib.Ieee.{Float, nan}
+use mathlib.Core.Path.{ap, _∙_}
 use Rattle.binary64.specs.Steps.{abs}
 use Rattle.binary64.proofs.Patterns.{number, is-nan, back, clear-number}
 use Rattle.binary64.proofs.Fields.{abs-bits}
 use Rattle.binary64.proofs.abs.Statement.{statement}
 use Rattle.binary64.proofs.abs.Tie as tie
 
-abs-nan : (x : Float) → x ≡ nan → x ≡ abs x
-unfolding abs
-abs-nan x e = subst (λ (v : Float). v ≡ abs v) (sym e) refl
-
 returns : tie.Need-returns
-returns c = abs-nan _ (is-nan _ (c .if1 .taken))
+unfolding abs
+returns c = rw (is-nan _ (c .if1 .taken))
 
 float-to-bits-result : tie.Need-float-to-bits-result
 float-to-bits-result c = number _ (c .if1 .left)

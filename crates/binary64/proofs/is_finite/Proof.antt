@@ -1,19 +1,14 @@
 -- `binary64::is_finite` meets its contract: only an infinity and a not-a-number have all ones in the exponent's field (`finite-bits`). Assumes nothing.
-use mathlib.Core.Path.{_≡_, refl, sym, ap, _∙_, subst}
-use mathlib.Core.Bool.{false}
-use lib.Ieee.{Float, nan}
+use mathlib.Core.Path.{ap, _∙_}
 use Rattle.binary64.specs.Steps.{isFinite}
 use Rattle.binary64.proofs.Patterns.{number, is-nan, back}
 use Rattle.binary64.proofs.Fields.{finite-bits}
 use Rattle.binary64.proofs.is_finite.Statement.{statement}
 use Rattle.binary64.proofs.is_finite.Tie as tie
 
-finite-nan : (x : Float) → x ≡ nan → false ≡ isFinite x
-unfolding isFinite
-finite-nan x e = subst (λ (v : Float). false ≡ isFinite v) (sym e) refl
-
 returns : tie.Need-returns
-returns c = finite-nan _ (is-nan _ (c .if1 .taken))
+unfolding isFinite
+returns c = rw (is-nan _ (c .if1 .taken))
 
 float-to-bits-result : tie.Need-float-to-bits-result
 float-to-bits-result c = number _ (c .if1 .left)

@@ -1,16 +1,13 @@
 -- `binary64::to_bits` meets its contract: what differs from itself is the not-a-number, whose bits the definition has. Assumes nothing.
-use mathlib.Core.Path.{_≡_, refl, sym, ap}
-use lib.Ieee.{Float, nan, binary64, toBits}
+use mathlib.Core.Path.{refl}
+use lib.Ieee.{toBits}
 use Rattle.binary64.proofs.Patterns.{number, is-nan}
 use Rattle.binary64.proofs.to_bits.Statement.{statement}
 use Rattle.binary64.proofs.to_bits.Tie as tie
 
-bits-of-nan : (x : Float) → x ≡ nan → 0x7ff8_0000_0000_0000 ≡ toBits binary64 x
-unfolding toBits
-bits-of-nan x e = sym (ap (toBits binary64) e)
-
 returns : tie.Need-returns
-returns c = bits-of-nan _ (is-nan _ (c .if1 .taken))
+unfolding toBits
+returns c = rw (is-nan _ (c .if1 .taken))
 
 float-to-bits-result : tie.Need-float-to-bits-result
 float-to-bits-result c = number _ (c .if1 .left)

@@ -7,7 +7,7 @@ use mathlib.Core.Bool.{Bool, true, false}
 use lib.IntN.{pos}
 use lib.Dec.{T, leb, le→leb}
 use lib.Pow.{pow-pos}
-use lib.Ieee.{Float, nan, binary64, fits, neg, round, inFloat, ofInt, ofFields, toBits}
+use lib.Ieee.{Float, binary64, fits, neg, round, inFloat, ofInt, ofFields, toBits}
 use borrow.Author.Needs.{needs}
 use borrow.Author.Tests.{le-leb, lt-leb}
 use Rattle.binary64.specs.Rounding.{halfAway}
@@ -16,10 +16,6 @@ use Rattle.binary64.proofs.Decode.{fields}
 use Rattle.binary64.proofs.HalfLaw.{large-half, neg-round}
 use Rattle.binary64.proofs.rounding.round.Statement.{statement}
 use Rattle.binary64.proofs.rounding.round.Tie as tie
-
-half-nan : (x : Float) → x ≡ nan → x ≡ halfAway x
-unfolding halfAway
-half-nan x e = subst (λ (v : Float). v ≡ halfAway v) (sym e) refl
 
 module _ (x : Float) (good : fits binary64 x ≡ true) where
   abbrev b : ℕ
@@ -54,7 +50,8 @@ unfolding inFloat
 in-float q h = le→leb q (2 ^ 53) h
 
 returns : tie.Need-returns
-returns c = half-nan _ (is-nan _ (c .if1 .taken))
+unfolding halfAway
+returns c = rw (is-nan _ (c .if1 .taken))
 
 float-to-bits-bits : tie.Need-float-to-bits-bits
 float-to-bits-bits c = number _ (c .if1 .left)

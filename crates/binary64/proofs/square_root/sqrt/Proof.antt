@@ -5,11 +5,11 @@ use native.Mathlib.Nat.{mul-pos, le-of-lt, eq-or-lt-of-le}
 use native.Mathlib.Omega.{arith}
 use mathlib.Core.Bool.{Bool, true, false, cond}
 use mathlib.Core.Logic.{_⊎_, inl, inr}
-use lib.Dec.{leb, eqb, le→leb}
+use lib.Dec.{eqb}
 use lib.Pow.{pow-pos}
 use lib.Ieee.{Float, nan, inf, binary64, ofFields, ofBits, toBits}
-use lib.Ieee.Bits.{is-true}
 use borrow.Author.Needs.{needs}
+use borrow.Author.Tests.{le-leb}
 use Rattle.binary64.specs.Root.{root}
 use Rattle.binary64.proofs.Patterns.{no-nan, number, zero-by-zero, is-nan, back, bits-lt}
 use Rattle.binary64.proofs.Decode.{fields, clear, fields-low, fields-mid, root-negative}
@@ -17,14 +17,13 @@ use Rattle.binary64.proofs.square_root.sqrt.Statement.{statement}
 use Rattle.binary64.proofs.square_root.sqrt.Tie as tie
 
 -- ---- `root` by the bits b of x
-module _ (x : Float) (b : ℕ) (e : ofBits binary64 b ≡ x) where
-  at-zero : b ≡ 0 → x ≡ root x
-  unfolding ofBits root
-  at-zero z = subst (λ (v : Float). v ≡ root v) (ap (ofBits binary64) (sym z) ∙ e) refl
+at-zero : (x : Float) (b : ℕ) → ofBits binary64 b ≡ x → b ≡ 0 → x ≡ root x
+unfolding ofBits root
+at-zero x b e z = rw (← e, z)
 
-  at-minus-zero : b ≡ 2 ^ 63 → x ≡ root x
-  unfolding ofBits root
-  at-minus-zero z = subst (λ (v : Float). v ≡ root v) (ap (ofBits binary64) (sym z) ∙ e) refl
+at-minus-zero : (x : Float) (b : ℕ) → ofBits binary64 b ≡ x → b ≡ 2 ^ 63 → x ≡ root x
+unfolding ofBits root
+at-minus-zero x b e z = rw (← e, z)
 
 -- an infinity or a NaN, by the digits' field
 top-root : (s : Bool) (t : ℕ) → root (ofFields binary64 s 2047 t) ≡ cond s nan (ofFields binary64 s 2047 t)
@@ -52,16 +51,11 @@ negative-fields (suc x) t l p = go (eq-or-lt-of-le l)
     go (inr h) = root-negative (ofFields binary64 true (suc x) t) ((2 ^ 52 + t) * 2 ^ x) (fields-mid true x t h) (mul-pos (omega arith) (pow-pos x))
 
 at-negative : (b : ℕ) → 2 ^ 63 < b → b < 2 ^ 64 → root (ofBits binary64 b) ≡ nan
-at-negative b lo hi =
-    ap root (fields b ∙ ap (λ (s : Bool). ofFields binary64 s (b % 2 ^ 63 / 2 ^ 52) (b % 2 ^ 52)) (is-true (leb (2 ^ 63) b) (le→leb (2 ^ 63) b (le-of-lt lo))))
-    ∙ negative-fields (b % 2 ^ 63 / 2 ^ 52) (b % 2 ^ 52) (omega arith) (omega arith)
-
-root-nan : (x : Float) → x ≡ nan → x ≡ root x
-unfolding root
-root-nan x e = subst (λ (v : Float). v ≡ root v) (sym e) refl
+at-negative b lo hi = rw (fields b, le-leb (2 ^ 63) b (le-of-lt lo)) (negative-fields (b % 2 ^ 63 / 2 ^ 52) (b % 2 ^ 52) (omega arith) (omega arith))
 
 returns : tie.Need-returns
-returns c = root-nan _ (is-nan _ (c .if1 .taken))
+unfolding root
+returns c = rw (is-nan _ (c .if1 .taken))
 
 float-to-bits-bits : tie.Need-float-to-bits-bits
 float-to-bits-bits c = number _ (c .if1 .left)

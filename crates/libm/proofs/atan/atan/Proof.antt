@@ -32,7 +32,7 @@ returns-4 : tie.Need-returns-4
 unfolding atan
 returns-4 c =
     let at-high = c .before .before .before in
-    rw (← at-high .high .ensures, lt-leb _ _ (c .before .before .if1 .left), lt-ltb _ _ (c .before .if4 .taken), lt-ltb _ _ (c .if5 .taken))
+    rw (← at-high .high .ensures, lt-leb _ _ (c .before .before .if1 .left), lt-ltb _ _ (c .before .if4 .taken), lt-ltb _ 0x3e200000 (c .if5 .taken))
 
 series-requires : tie.Need-series-requires
 series-requires c κs = search needs

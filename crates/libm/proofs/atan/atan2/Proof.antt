@@ -30,8 +30,8 @@ returns-4 : tie.Need-returns-4
 unfolding atan2
 returns-4 c =
     let at-if3 = c .before .before .before in
-    rw (at-if3 .before .before .if1 .left, at-if3 .before .if2 .left, at-if3 .if3 .left, c .before .if4 .taken, ← c .before .before .signs .ensures)
-    (rw (← c .switch .ensures))
+    rw (at-if3 .before .before .if1 .left, at-if3 .before .if2 .left, at-if3 .if3 .left, c .before .if4 .taken)
+    (rw (c .switch .ensures, c .before .before .signs .ensures))
 
 quarter-requires : tie.Need-quarter-requires
 quarter-requires c κs = search needs

@@ -25,7 +25,7 @@ add-if1 c = omega arith
 
 returns : tie.Need-returns
 unfolding quotient
-returns c = rw (← c .before .before .high .ensures, ← c .before .high2 .ensures, le-leb _ _ (c .if1 .taken))
+returns c = rw (← c .before .before .high .ensures, ← c .before .high2 .ensures, le-leb (_ + 61 * 2 ^ 20) _ (c .if1 .taken))
 
 negative-requires : tie.Need-negative-requires
 negative-requires c κs = search needs

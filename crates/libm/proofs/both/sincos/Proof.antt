@@ -48,7 +48,7 @@ returns-2 c =
     let at-if1 = at-rem-pio2 .before .before .before in
     rw (← at-if1 .before .high .ensures, lt-leb _ _ (at-if1 .if1 .left), ← at-rem-pio2 .before .before .abs .ensures)
     (rw (at-rem-pio2 .before .if2 .taken, ← at-rem-pio2 .rem-pio2 .ensures, ← at-k-cos2 .before .k-sin2 .ensures, ← at-k-cos2 .k-cos2 .ensures)
-    (rw (← c .before .before .switch .ensures, ← c .before .signed .ensures, ← c .switch2 .ensures)))
+    (rw (← c .before .before .switch .ensures, ← c .before .signed .ensures, c .switch2 .ensures)))
 
 returns-3 : tie.Need-returns-3
 unfolding sincos sin cos

@@ -52,7 +52,7 @@ unfolding scaled
 returns-5 c =
     let at-if4 = c .before .before .before in
     rw (le-ltb _ _ (at-if4 .before .before .if1 .left), le-ltb _ _ (at-if4 .before .if2 .left), lt-ltb _ _ (at-if4 .if4 .taken))
-    (rw (le-leb _ _ (c .before .before .if5 .taken), c .before .if6 .left, ← c .medium2 .ensures))
+    (rw (le-leb _ _ (c .before .before .if5 .taken), c .before .if6 .left, c .medium2 .ensures))
 
 add-medium : tie.Need-add-medium
 add-medium c = omega arith

@@ -1,7 +1,10 @@
 -- `libm::trig::cos` meets its contract: each return is one case of the definition, and 0 / 0 is not-a-number (`zero-by-zero`). Assumes nothing.
 use borrow.Author.Needs.{needs}
 use borrow.Author.Tests.{le-leb, lt-leb}
-use Rattle.libm.specs.Trig.{cos}
+use mathlib.Core.Path.{_≡_}
+use mathlib.Core.Bool.{true}
+use lib.Ieee.{le}
+use Rattle.libm.specs.Trig.{cos, limit}
 use Rattle.binary64.proofs.Patterns.{zero-by-zero}
 use Rattle.libm.proofs.trig.cos.Statement.{statement}
 use Rattle.libm.proofs.trig.cos.Tie as tie
@@ -29,7 +32,8 @@ returns-2 : tie.Need-returns-2
 unfolding cos
 returns-2 c =
     let at-abs = c .before .before .before in
-    rw (← at-abs .before .before .high .ensures, lt-leb _ _ (at-abs .before .if1 .left), ← at-abs .abs .ensures, c .before .before .if2 .taken)
+    let within : le (at-abs .abs .result) limit ≡ true = c .before .before .if2 .taken in
+    rw (← at-abs .before .before .high .ensures, lt-leb _ _ (at-abs .before .if1 .left), ← at-abs .abs .ensures, within)
     (rw (← c .before .rem-pio2 .ensures, ← c .cos-of .ensures))
 
 returns-3 : tie.Need-returns-3

@@ -1,7 +1,10 @@
 -- `libm::trig::sin` meets its contract: each return is one case of the definition, and 0 / 0 is not-a-number (`zero-by-zero`). Assumes nothing.
 use borrow.Author.Needs.{needs}
 use borrow.Author.Tests.{le-leb, lt-leb}
-use Rattle.libm.specs.Trig.{sin}
+use mathlib.Core.Path.{_≡_}
+use mathlib.Core.Bool.{true}
+use lib.Ieee.{le}
+use Rattle.libm.specs.Trig.{sin, limit}
 use Rattle.binary64.proofs.Patterns.{zero-by-zero}
 use Rattle.libm.proofs.trig.sin.Statement.{statement}
 use Rattle.libm.proofs.trig.sin.Tie as tie
@@ -33,8 +36,9 @@ unfolding sin
 returns-2 c =
     let at-if2 = c .before .before .before in
     let at-high = at-if2 .before .before .before in
-    rw (← at-high .high .ensures, lt-leb _ _ (at-if2 .before .before .if1 .left), ← at-if2 .before .abs .ensures, at-if2 .if2 .taken)
-    (rw (← c .before .before .rem-pio2 .ensures, ← c .before .sin-of .ensures, ← c .signed .ensures))
+    let within : le (at-if2 .before .abs .result) limit ≡ true = at-if2 .if2 .taken in
+    rw (← at-high .high .ensures, lt-leb _ _ (at-if2 .before .before .if1 .left), ← at-if2 .before .abs .ensures, within)
+    (rw (c .signed .ensures, c .before .sin-of .ensures, c .before .before .rem-pio2 .ensures))
 
 returns-3 : tie.Need-returns-3
 unfolding sin

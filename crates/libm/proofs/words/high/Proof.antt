@@ -1,18 +1,15 @@
 -- `libm::words::high` meets its contract: what equals itself is a number, so its bits are defined, and the one not-a-number has the high word that is returned for it.
 -- Assumes nothing.
-use mathlib.Core.Path.{_≡_, refl, sym, subst}
-use lib.Ieee.{Float, nan, toBits}
+use mathlib.Core.Path.{refl}
+use lib.Ieee.{toBits}
 use Rattle.binary64.proofs.Patterns.{number, is-nan}
 use Rattle.libm.specs.Words.{high}
 use Rattle.libm.proofs.words.high.Statement.{statement}
 use Rattle.libm.proofs.words.high.Tie as tie
 
-of-nan : (x : Float) → x ≡ nan → 0x7ff80000 ≡ high x
-unfolding high toBits
-of-nan x e = subst (λ (v : Float). 0x7ff80000 ≡ high v) (sym e) refl
-
 returns : tie.Need-returns
-returns c = of-nan _ (is-nan _ (c .if1 .taken))
+unfolding high toBits
+returns c = rw (is-nan _ (c .if1 .taken))
 
 float-to-bits-result : tie.Need-float-to-bits-result
 float-to-bits-result c = number _ (c .if1 .left)

@@ -1,18 +1,14 @@
 -- `libm::words::negative` meets its contract: what equals itself is a number, so its bits are defined, and the one not-a-number has the sign clear. Assumes nothing.
-use mathlib.Core.Path.{_≡_, refl, sym, subst}
-use mathlib.Core.Bool.{false}
-use lib.Ieee.{Float, nan, toBits}
+use mathlib.Core.Path.{refl}
+use lib.Ieee.{toBits}
 use Rattle.binary64.proofs.Patterns.{number, is-nan}
 use Rattle.libm.specs.Words.{negative}
 use Rattle.libm.proofs.words.negative.Statement.{statement}
 use Rattle.libm.proofs.words.negative.Tie as tie
 
-of-nan : (x : Float) → x ≡ nan → false ≡ negative x
-unfolding negative toBits
-of-nan x e = subst (λ (v : Float). false ≡ negative v) (sym e) refl
-
 returns : tie.Need-returns
-returns c = of-nan _ (is-nan _ (c .if1 .taken))
+unfolding negative toBits
+returns c = rw (is-nan _ (c .if1 .taken))
 
 float-to-bits-result : tie.Need-float-to-bits-result
 float-to-bits-result c = number _ (c .if1 .left)
