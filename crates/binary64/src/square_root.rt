@@ -76,23 +76,22 @@ fn guess(m: u64, odd: u64) -> u64
     let y0 = f64::from_bits(0x5fe4_0000_0000_0000 - (bits >> 1));
     let y1 = 1.681914 * y0 - 0.703952253 * u * y0 * (y0 * y0);
     let y = 1.5000004725 * y1 - 0.5000001575 * u * y1 * (y1 * y1);
-    // the root of u is g / the root of (1 - e)
+    // the root of u is g / the root of (1 - e) with e = 1 - g * y, which is, to the second order in e,
+    // g + (u - g * g) * y * (0.5 + 0.375 * e)
     let g = u * y;
-    let e = 1.0 - g * y;
-    let slope = 0.5 * y + 0.375 * y * e;
+    let slope = y * (0.875 - 0.375 * (g * y));
     // u - g * g, exactly: adding 3 * 2^26 and taking it off leaves g's upper binary digits in `top`
     let top = (g + 201326592.0) - 201326592.0;
     let rest = (u - top * top) - (g + top) * (g - top);
     let s = g + rest * slope;
-    if s >= 0.5 {
+    // the root is from 1 to 2, and any other s, or a not-a-number, is no guess
+    if s >= 1.0 {
         let b = f64::to_bits(s);
-        if b < 0x3ff0_0000_0000_0000 {
-            return LEAD;
+        if b >= 0x3ff0_0000_0000_0000 {
+            if b <= 0x4000_0000_0000_0000 {
+                return b - 0x3fe0_0000_0000_0000;
+            }
         }
-        if b > 0x4000_0000_0000_0000 {
-            return MOST;
-        }
-        return b - 0x3fe0_0000_0000_0000;
     }
     LEAD
 }

@@ -1,4 +1,4 @@
--- `binary64::guess` meets its contract: it is within its bounds, and no NaN's bits are asked. Assumes nothing.
+-- `binary64::square_root::guess` meets its contract: it is within its bounds, and no bits of a not-a-number are asked for. Assumes nothing.
 use native.Mathlib.Omega.{arith}
 use borrow.Author.Needs.{needs}
 use Rattle.binary64.proofs.Patterns.{no-nan, le-number}
@@ -26,14 +26,14 @@ float-from-bits-y0 c = no-nan _ (omega arith)
 float-to-bits-b : tie.Need-float-to-bits-b
 float-to-bits-b c = le-number _ _ (c .if1 .taken)
 
+sub-result : tie.Need-sub-result
+sub-result c = search needs
+
 returns : tie.Need-returns
 returns c = search needs
 
 returns-2 : tie.Need-returns-2
 returns-2 c = search needs
-
-sub-result : tie.Need-sub-result
-sub-result c = search needs
 
 returns-3 : tie.Need-returns-3
 returns-3 c = search needs
@@ -52,8 +52,8 @@ guess-spec =
     sub-y0
     float-from-bits-y0
     float-to-bits-b
+    sub-result
     returns
     returns-2
-    sub-result
     returns-3
     returns-4)
