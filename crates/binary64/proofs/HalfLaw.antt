@@ -32,29 +32,14 @@ half-value (fin t m e) s a h =
 
 -- ---- below a half
 below-half : (a L : ℕ) → 2 * a < L → (2 * a + L) / (2 * L) ≡ 0
-below-half a L h = div-eq-of-lt (more a L h)
-  where
-    more : (a L : ℕ) → 2 * a < L → 2 * a + L < 2 * L
-    more a L h = omega arith
+below-half a L h = div-eq-of-lt (omega arith)
 
 pub small-half : (s : Bool) (x t : ℕ) → x < 1022 → t < 2 ^ 52 → halfAway (ofFields binary64 s x t) ≡ round binary64 s 0 1
-small-half s zero t l h = half-value (ofFields binary64 s 0 t) s t (fields-low s t) ∙ ap (λ (q : ℕ). round binary64 s q 1) (below-half t (2 ^ 1074) (lt-of-lt-of-le (twice t h) (pow-mono {i = 53} {j = 1074} (lit≤ tt))))
-  where
-    twice : (t : ℕ) → t < 2 ^ 52 → 2 * t < 2 ^ 53
-    twice t h = omega arith
+small-half s zero t l h = half-value (ofFields binary64 s 0 t) s t (fields-low s t) ∙ ap (λ (q : ℕ). round binary64 s q 1) (below-half t (2 ^ 1074) (lt-of-lt-of-le {m = 2 ^ 53} (omega arith) (pow-mono {i = 53} {j = 1074} (lit≤ tt))))
 small-half s (suc x) t l h =
-    half-value (ofFields binary64 s (suc x) t) s ((2 ^ 52 + t) * 2 ^ x) (fields-mid s x t (more x l))
-    ∙ ap (λ (q : ℕ). round binary64 s q 1) (below-half ((2 ^ 52 + t) * 2 ^ x) (2 ^ 1074) (double ((2 ^ 52 + t) * 2 ^ x) (2 ^ 1073) (2 ^ 1074) refl (lt-of-lt-of-le (shl-lt 53 x (lead t h)) (pow-mono (room x l)))))
+    half-value (ofFields binary64 s (suc x) t) s ((2 ^ 52 + t) * 2 ^ x) (fields-mid s x t (omega arith))
+    ∙ ap (λ (q : ℕ). round binary64 s q 1) (below-half ((2 ^ 52 + t) * 2 ^ x) (2 ^ 1074) (double ((2 ^ 52 + t) * 2 ^ x) (2 ^ 1073) (2 ^ 1074) refl (lt-of-lt-of-le (shl-lt 53 x (omega arith)) (pow-mono {i = 53 + x} {j = 1073} (omega arith)))))
   where
-    more : (x : ℕ) → suc x < 1022 → suc x < 2047
-    more x l = omega arith
-
-    lead : (t : ℕ) → t < 2 ^ 52 → 2 ^ 52 + t < 2 ^ 53
-    lead t h = omega arith
-
-    room : (x : ℕ) → suc x < 1022 → 53 + x ≤ 1073
-    room x l = omega arith
-
     double : (a H L : ℕ) → 2 * H ≡ L → a < H → 2 * a < L
     double a H L e h = omega arith
 
@@ -62,14 +47,11 @@ small-half s (suc x) t l h =
 pub mid-half : (s : Bool) (x t k : ℕ) → 1022 ≤ x → k + x ≡ 1074 → halfAway (ofFields binary64 s x t) ≡ round binary64 s ((t + 2 ^ 52 + 2 ^ k) / 2 ^ (k + 1)) 1
 mid-half s zero t k l e = absurd (omega arith)
 mid-half s (suc x) t k l e =
-    half-value (ofFields binary64 s (suc x) t) s ((2 ^ 52 + t) * 2 ^ x) (fields-mid s x t (more x k e))
+    half-value (ofFields binary64 s (suc x) t) s ((2 ^ 52 + t) * 2 ^ x) (fields-mid s x t (omega arith))
     ∙ ap (λ (q : ℕ). round binary64 s q 1)
     (div-same (2 * ((2 ^ 52 + t) * 2 ^ x) + 2 ^ 1074) (2 * 2 ^ 1074) (t + 2 ^ 52 + 2 ^ k) (2 ^ (k + 1)) (pow-pos 1075) (pow-pos (k + 1))
     (same (2 ^ 52 + t) (t + 2 ^ 52) (2 ^ x) (2 ^ k) (2 ^ 1074) (2 ^ (k + 1)) (flip t) whole (up1 k)))
   where
-    more : (x k : ℕ) → k + suc x ≡ 1074 → suc x < 2047
-    more x k e = omega arith
-
     flip : (t : ℕ) → 2 ^ 52 + t ≡ t + 2 ^ 52
     flip t = omega arith
 
@@ -96,21 +78,15 @@ large s x t lo hi h f =
     let a : m * 2 ^ x ≡ c * 2 ^ 1074 = coarse m x 1074 (omega arith) in
     let hv : HasValue v s (c * 2 ^ 1074) (2 ^ 1074) = subst (λ (y : ℕ). HasValue v s y (2 ^ 1074)) a (fields-mid s x t hi) in
     let small : m < 2 ^ 53 = omega arith in
-    let fine : m * 2 ^ x < 2 ^ 2098 = lt-of-lt-of-le (shl-lt 53 x small) (pow-mono (room x hi)) in
+    let fine : m * 2 ^ x < 2 ^ 2098 = lt-of-lt-of-le (shl-lt 53 x small) (pow-mono {i = 53 + x} {j = 2098} (omega arith)) in
     half-value v s (c * 2 ^ 1074) hv
     ∙ ap (λ (q : ℕ). round binary64 s q 1) (cut c (2 ^ 1074) (pow-pos 1074))
     ∙ whole-unique binary64 (round binary64 s c 1) v s c (round-fits binary64 s c 1) f
     (round-exact binary64 s c 1 m x (zero-lt-suc 0) small fine (sym a ∙ sym (mul-one (m * 2 ^ x))))
     (rescale v s c hv)
   where
-    room : (x : ℕ) → suc x < 2047 → 53 + x ≤ 2098
-    room x l = omega arith
-
     cut : (c L : ℕ) → 0 < L → (2 * (c * L) + L) / (2 * L) ≡ c
-    cut c L p = ap (λ (y : ℕ). (y + L) / (2 * L)) (mul-left-comm 2 c L) ∙ digits-div c (more L p)
-      where
-        more : (L : ℕ) → 0 < L → L < 2 * L
-        more L p = omega arith
+    cut c L p = ap (λ (y : ℕ). (y + L) / (2 * L)) (mul-left-comm 2 c L) ∙ digits-div c (omega arith)
 
 top-half : (s : Bool) (t : ℕ) → halfAway (ofFields binary64 s 2047 t) ≡ ofFields binary64 s 2047 t
 unfolding halfAway ofFields

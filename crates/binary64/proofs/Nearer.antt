@@ -26,10 +26,7 @@ coarse m j h l = ap (λ (x : ℕ). m * x) (ap (λ (x : ℕ). 2 ^ x) (sum j h l) 
     sum j h l = omega arith
 
 fine : (m j h : ℕ) → m < 2 ^ 53 → j < h → m * 2 ^ j < 2 ^ 52 * 2 ^ h
-fine m j h a l = lt-of-lt-of-le (shl-lt 53 j a) (le-trans (pow-mono (room j h l)) (le-of-eq (pow-add 2 52 h)))
-  where
-    room : (j h : ℕ) → j < h → 53 + j ≤ 52 + h
-    room j h l = omega arith
+fine m j h a l = lt-of-lt-of-le (shl-lt 53 j a) (le-trans (pow-mono {i = 53 + j} {j = 52 + h} (omega arith)) (le-of-eq (pow-add 2 52 h)))
 
 -- squares of a multiple c of P
 over : (s c P w : ℕ) → 0 < P → c * P ≤ s → 4 * w < c * c → 4 * (w * (P * P)) < s * s

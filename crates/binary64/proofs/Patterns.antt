@@ -1,4 +1,4 @@
--- An `f64` and its bits: a value that the format holds is what its bits stand for, and which bits and which tests rule out a NaN. Assumes nothing.
+-- An `f64` and its bits: a value that the format holds is what its bits stand for, and which bits and which tests rule out a not-a-number. Assumes nothing.
 use mathlib.Core.Path.{_≡_, refl, sym, ap, _∙_, subst}
 use Prim.Native.Nat.{ℕ, _%_, _*_, _^_, _≤_, _<_}
 use native.Mathlib.Nat.{mod-le, le-trans}
@@ -59,7 +59,7 @@ back x h = ofBits-toBits binary64 x (subst T (sym h) tt)
 pub bits-lt : (x : Float) → fits binary64 x ≡ true → toBits binary64 x < 2 ^ 64
 bits-lt x h = toBits-lt binary64 x (subst T (sym h) tt)
 
--- clearing the sign makes no NaN
+-- clearing the sign makes no not-a-number
 pub clear-number : (x : Float) → fits binary64 x ≡ true → T (not (isNan x)) → T (not (nanBits binary64 (toBits binary64 x % 2 ^ 63)))
 clear-number x h n =
     let b = toBits binary64 x in

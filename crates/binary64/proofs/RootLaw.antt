@@ -1,7 +1,7 @@
 -- `rootUnits` at w * 2 ^ h * 2 ^ h, for a w of 105 or 106 binary digits, is the whole number nearest to √w, times 2 ^ h. Assumes nothing.
 use mathlib.Core.Path.{_≡_, refl, sym, ap, _∙_, subst}
 use Prim.Native.Nat.{ℕ, suc, _+_, _-_, _*_, _/_, _^_, _≤_, _<_, compare, Ordering, Ordering·lt, Ordering·eq, Ordering·gt}
-use native.Mathlib.Nat.{le-trans, le-of-eq, le-of-suc-le-suc, le-antisymm, lt-of-lt-of-le, lt-of-le-of-lt, lt-of-not-le, not-le-of-lt, mul-pos, mul-assoc, mul-le-mul-right, lt-of-mul-lt-mul-right, eq-of-mul-eq-mul-right, mul-div-cancel}
+use native.Mathlib.Nat.{le-trans, le-of-eq, le-antisymm, lt-of-lt-of-le, lt-of-not-le, not-le-of-lt, mul-pos, mul-le-mul-right, lt-of-mul-lt-mul-right, eq-of-mul-eq-mul-right, mul-div-cancel}
 use native.Mathlib.Numerals.{add-one}
 use native.Mathlib.Omega.{arith}
 use mathlib.Core.Bool.{false, not}
@@ -39,13 +39,10 @@ size-is n j lo hi = le-antisymm (size-le n (suc j) hi) (size-gt n j lo)
 pick : (w q r u : ℕ) (o : Ordering) → 0 < u → 0 < q → Floored w q → Nearest w r → Cmp o (4 * (w * u)) ((2 * q + 1) * (2 * q + 1) * u) → nearest q o ≡ r
 pick w q r u o p z f n = go o
   where
-    l : 4 * (w * u) ≡ 4 * w * u
-    l = sym (mul-assoc 4 w u)
-
     go : (o : Ordering) → Cmp o (4 * (w * u)) ((2 * q + 1) * (2 * q + 1) * u) → nearest q o ≡ r
-    go Ordering·lt c = nearest-unique w q r (nearest-low w q z f (lt-of-mul-lt-mul-right u (subst (λ (x : ℕ). x < (2 * q + 1) * (2 * q + 1) * u) l c))) n
-    go Ordering·eq c = absurd (no-tie w q (eq-of-mul-eq-mul-right u p (4 * w) ((2 * q + 1) * (2 * q + 1)) (sym l ∙ c)))
-    go Ordering·gt c = sym (add-one q) ∙ nearest-unique w (q + 1) r (nearest-high w q f (lt-of-mul-lt-mul-right u (subst (λ (x : ℕ). (2 * q + 1) * (2 * q + 1) * u < x) l c))) n
+    go Ordering·lt c = nearest-unique w q r (nearest-low w q z f (lt-of-mul-lt-mul-right u (omega arith))) n
+    go Ordering·eq c = absurd (no-tie w q (eq-of-mul-eq-mul-right u p (4 * w) ((2 * q + 1) * (2 * q + 1)) (omega arith)))
+    go Ordering·gt c = sym (add-one q) ∙ nearest-unique w (q + 1) r (nearest-high w q f (lt-of-mul-lt-mul-right u (omega arith))) n
 
 -- `rootUnits` with the count k of dropped digits, and then the kept digits q, as variables
 abbrev from : (n k q : ℕ) → Float
@@ -68,10 +65,7 @@ dropped w h lo hi =
     count z h a b = omega arith
 
 positive : (w q : ℕ) → 2 ^ 104 ≤ w → w < (q + 1) * (q + 1) → 0 < q
-positive w q a b = le-of-suc-le-suc (subst (λ (x : ℕ). 1 < x) (add-one q) (sq-lt 1 (q + 1) (lt-of-le-of-lt (le-trans one a) b)))
-  where
-    one : 1 * 1 ≤ 2 ^ 104
-    one = pow-pos 104
+positive w q a b = let h : 1 < q + 1 = sq-lt 1 (q + 1) (omega arith) in omega arith
 
 pub root-law : (w h r : ℕ) → 2 ^ 104 ≤ w → w < 2 ^ 106 → Nearest w r → rootUnits (w * (2 ^ h * 2 ^ h)) ≡ units binary64 false r h
 root-law w h r lo hi near =

@@ -1,7 +1,7 @@
 -- Squares of whole numbers, and the whole number nearest to a root. Nothing here is about floats. Assumes nothing.
-use mathlib.Core.Path.{_≡_, subst}
-use Prim.Native.Nat.{ℕ, suc, _+_, _-_, _*_, _≤_, _<_}
-use native.Mathlib.Nat.{le-antisymm, lt-of-not-le, not-le-of-lt, le-of-suc-le-suc, mul-le-mul}
+use mathlib.Core.Path.{_≡_}
+use Prim.Native.Nat.{ℕ, suc, _+_, _*_, _≤_, _<_}
+use native.Mathlib.Nat.{le-antisymm, lt-of-not-le, not-le-of-lt, le-of-suc-le-suc, mul-le-mul, mul-le-mul-left, mul-le-mul-right}
 use native.Mathlib.Omega.{arith}
 use Rattle.binary64.specs.Root.{Nearest}
 
@@ -22,13 +22,7 @@ abbrev pub Floored : ℕ → ℕ → Type 0
 Floored n a = (a * a ≤ n) × (n < (a + 1) * (a + 1))
 
 not-below : (w r t : ℕ) → Nearest w r → Nearest w t → r < t → ⊥
-not-below w r t a b h = step (t - 1) (omega arith) (subst (λ (x : ℕ). Nearest w x) (as-suc t h) b)
-  where
-    as-suc : (t : ℕ) → r < t → t ≡ t - 1 + 1
-    as-suc t h = omega arith
-
-    step : (u : ℕ) → r ≤ u → Nearest w (u + 1) → ⊥
-    step u l c = omega (arith, mul-le-mul l l, sq-suc u)
+not-below w r t a b h = let l : r + 1 ≤ t = omega arith in omega (arith, mul-le-mul-right t l, mul-le-mul-left r l)
 
 pub nearest-unique : (w r t : ℕ) → Nearest w r → Nearest w t → r ≡ t
 nearest-unique w r t a b =

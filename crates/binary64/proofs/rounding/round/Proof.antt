@@ -1,4 +1,4 @@
--- `binary64::round` meets its contract: from 2 ^ 52 on a value is whole (`large-half`); below, `whole` has the magnitude, which a cast writes exactly, and the sign comes back by `neg-round`. Assumes nothing.
+-- `binary64::rounding::round` meets its contract: from 2 ^ 52 on a value is whole (`large-half`); below, `whole` has the magnitude, which a cast writes exactly, and the sign comes back by `neg-round`. Assumes nothing.
 use mathlib.Core.Path.{_≡_, refl, sym, ap, _∙_, subst}
 use Prim.Native.Nat.{ℕ, _/_, _%_, _^_, _≤_}
 use native.Mathlib.Nat.{mod-lt}

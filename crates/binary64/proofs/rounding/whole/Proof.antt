@@ -1,4 +1,4 @@
--- `binary64::whole` meets its contract: below a half it is 0 (`small-half`), and from there up a half is 2 ^ k of the units that m counts (`mid-half`). Assumes nothing.
+-- `binary64::rounding::whole` meets its contract: below a half it is 0 (`small-half`), and from there up a half is 2 ^ k of the units that m counts (`mid-half`). Assumes nothing.
 use mathlib.Core.Path.{_≡_, sym, ap, _∙_}
 use Prim.Native.Nat.{ℕ, _+_, _-_, _*_, _/_, _%_, _^_, _≤_, _<_}
 use native.Mathlib.Nat.{le-trans, one-mul, mod-lt, mod-eq-of-lt, lt-of-le-of-lt, mul-le-mul-left, div-mul-le-self}

@@ -1,4 +1,4 @@
--- `binary64::bisect` meets its contract. The invariant of its loop: the least r with m ≤ (r * r + r) / 2 ^ 52 lies above `low` and at or below `high`. Assumes nothing.
+-- `binary64::square_root::bisect` meets its contract. The invariant of its loop: the least r with m ≤ (r * r + r) / 2 ^ 52 lies above `low` and at or below `high`. Assumes nothing.
 use mathlib.Core.Path.{_≡_, ap}
 use Prim.Native.Nat.{ℕ, _+_, _-_, _*_, _/_, _^_, _≤_, _<_}
 use native.Mathlib.Nat.{le-div-iff-mul-le, div-lt-iff-lt-mul}

@@ -1,4 +1,4 @@
--- `binary64::near` meets its contract: by `fold-law` the two tests compare m with (r * r + r) / 2 ^ 52 and (r * r - r) / 2 ^ 52, so a pass of both puts m * 2 ^ 52 between the squares of r - 1 / 2 and r + 1 / 2. Assumes nothing.
+-- `binary64::square_root::near` meets its contract: by `fold-law` the two tests compare m with (r * r + r) / 2 ^ 52 and (r * r - r) / 2 ^ 52, so a pass of both puts m * 2 ^ 52 between the squares of r - 1 / 2 and r + 1 / 2. Assumes nothing.
 use mathlib.Core.Path.{subst}
 use mathlib.Core.Bool.{true, false, false≢true}
 use Prim.Native.Nat.{ℕ, _+_, _-_, _*_, _/_, _^_, _≤_, _<_}

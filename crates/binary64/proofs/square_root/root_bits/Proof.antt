@@ -1,7 +1,7 @@
--- `binary64::root_bits` meets its contract: a normal value is m * 2 ^ p units (`normal`), and a subnormal one is moved up until it has 53 binary digits (`subnormal`). The loop's invariant: m is `bits` with k zeros after it. Assumes nothing.
+-- `binary64::square_root::root_bits` meets its contract: a normal value is m * 2 ^ p units (`normal`), and a subnormal one is moved up until it has 53 binary digits (`subnormal`). The loop's invariant: m is `bits` with k zeros after it. Assumes nothing.
 use mathlib.Core.Path.{_≡_, sym, ap, _∙_, subst}
 use Prim.Native.Nat.{ℕ, zero, suc, _+_, _-_, _*_, _/_, _%_, _^_, _≤_, _<_}
-use native.Mathlib.Nat.{mul-assoc, mul-left-comm, mul-one, one-mul, mul-pos, mul-le-mul-right, lt-of-not-le, not-le-of-lt, le-trans, pow-succ', div-lt-iff-lt-mul}
+use native.Mathlib.Nat.{mul-assoc, mul-one, mul-pos, mul-le-mul-right, lt-of-not-le, div-lt-iff-lt-mul}
 use native.Mathlib.Omega.{arith}
 use mathlib.Core.Bool.{false}
 use lib.Pow.{pow-add, pow-pos, pow-mono}
@@ -21,10 +21,7 @@ normal b h l = go (b / 2 ^ 52) h (div-lt-iff-lt-mul (pow-pos 52) .1 l) (clear b 
     t = b % 2 ^ 52
 
     go : (x : ℕ) → 0 < x → x < 2047 → ofBits binary64 b ≡ ofFields binary64 false x t → root (ofBits binary64 b) ≡ rootUnits ((bitAnd b 0xf_ffff_ffff_ffff + 2 ^ 52) * 2 ^ (x + 1073))
-    go zero h l e = absurd (none h)
-      where
-        none : 0 < 0 → ⊥
-        none h = omega arith
+    go zero h l e = absurd (omega arith)
     go (suc x) h l e =
         ap root e
         ∙ root-value (ofFields binary64 false (suc x) t) ((2 ^ 52 + t) * 2 ^ x) (fields-mid false x t l) (mul-pos (omega arith) (pow-pos x))
@@ -51,14 +48,10 @@ subnormal b k m p z e l =
 
 -- a b above 0 with k zeros after it has more than k digits
 few : (b k m : ℕ) → 0 < b → m ≡ b * 2 ^ k → m < 2 ^ 53 → k < 53
-few b k m p e h =
-    lt-of-not-le (λ (g : 53 ≤ k). not-le-of-lt h (le-trans (pow-mono g) (subst (λ (x : ℕ). 2 ^ k ≤ x) (sym e) (subst (λ (x : ℕ). x ≤ b * 2 ^ k) (one-mul (2 ^ k)) (mul-le-mul-right (2 ^ k) p)))))
+few b k m p e h = lt-of-not-le (λ (g : 53 ≤ k). omega (arith, pow-mono {i = 53} {j = k} g, mul-le-mul-right (2 ^ k) p))
 
 again : (b k m : ℕ) → m ≡ b * 2 ^ k → 2 * m ≡ b * 2 ^ (k + 1)
-again b k m e = ap (λ (x : ℕ). 2 * x) e ∙ mul-left-comm 2 b (2 ^ k) ∙ ap (λ (x : ℕ). b * x) (sym (pow-succ' 2 k) ∙ ap (λ (x : ℕ). 2 ^ x) (one k))
-  where
-    one : (k : ℕ) → suc k ≡ k + 1
-    one k = omega arith
+again b k m e = rw (pow-add 2 k 1) (omega arith)
 
 abbrev Inv-loop : tie.InvT-loop
 Inv-loop bits e m₀ k₀ m k = (0 < m) × (m < 2 ^ 53) × (k < 53) × (m ≡ bits * 2 ^ k)

@@ -1,4 +1,4 @@
--- `binary64::root_of` meets its contract: m * 2 ^ p is w * (2 ^ half) ^ 2 for a w of 105 or 106 binary digits (`scaled`); `root-law` has the root of that, and `bits-law` its bits. Assumes nothing.
+-- `binary64::square_root::root_of` meets its contract: m * 2 ^ p is w * (2 ^ half) ^ 2 for a w of 105 or 106 binary digits (`scaled`); `root-law` has the root of that, and `bits-law` its bits. Assumes nothing.
 use mathlib.Core.Path.{_≡_, sym, ap, _∙_}
 use Prim.Native.Nat.{ℕ, _+_, _-_, _*_, _/_, _%_, _^_, _≤_, _<_}
 use native.Mathlib.Nat.{mul-assoc}

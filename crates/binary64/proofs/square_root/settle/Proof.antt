@@ -1,4 +1,4 @@
--- `binary64::settle` meets its contract: the guess passed `near`, or `bisect` gave the number. The shift loses nothing (`shifted`). Assumes nothing.
+-- `binary64::square_root::settle` meets its contract: the guess passed `near`, or `bisect` gave the number. The shift loses nothing (`shifted`). Assumes nothing.
 use mathlib.Core.Path.{_≡_, subst}
 use Prim.Native.Nat.{ℕ, _*_, _%_, _^_, _≤_, _<_}
 use native.Mathlib.Omega.{arith}

@@ -1,4 +1,4 @@
--- `binary64::sqrt` meets its contract. x is what its bits stand for (`ofBits-toBits`), and each test of the bits is a case of `root`. Assumes nothing.
+-- `binary64::square_root::sqrt` meets its contract. x is what its bits stand for (`back`), and each test of the bits is a case of `root`. Assumes nothing.
 use mathlib.Core.Path.{_≡_, refl, sym, ap, _∙_, subst}
 use Prim.Native.Nat.{ℕ, zero, suc, _+_, _*_, _/_, _%_, _^_, _≤_, _<_}
 use native.Mathlib.Nat.{mul-pos, le-of-lt, eq-or-lt-of-le}
@@ -25,7 +25,7 @@ at-minus-zero : (x : Float) (b : ℕ) → ofBits binary64 b ≡ x → b ≡ 2 ^ 
 unfolding ofBits root
 at-minus-zero x b e z = rw (← e, z)
 
--- an infinity or a NaN, by the digits' field
+-- an infinity or a not-a-number, by the digits' field
 top-root : (s : Bool) (t : ℕ) → root (ofFields binary64 s 2047 t) ≡ cond s nan (ofFields binary64 s 2047 t)
 unfolding root ofFields
 top-root s t = go s (eqb t 0)
