@@ -2,4 +2,5 @@
 pub mod Infinity
 pub mod Cast
 pub mod Sizes
+pub mod Limit
 mod Worked

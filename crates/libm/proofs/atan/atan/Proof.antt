@@ -42,7 +42,7 @@ unfolding atan
 returns-5 c =
     let at-if1 = c .before .before .before in
     rw (← at-if1 .before .high .ensures, lt-leb _ _ (at-if1 .if1 .left), lt-ltb _ _ (c .before .before .if4 .taken))
-    (rw (le-ltb _ _ (c .before .if5 .left), ← c .series .ensures))
+    (rw (le-ltb _ 0x3e200000 (c .before .if5 .left), ← c .series .ensures))
 
 abs-requires : tie.Need-abs-requires
 abs-requires c κs = search needs

@@ -59,8 +59,8 @@ returns-6 c =
     let at-signs = at-high .before .before .before in
     let at-if1 = at-signs .before .before .before in
     rw (at-if1 .if1 .left, at-signs .before .before .if2 .left, at-signs .before .if3 .left, at-high .before .before .if4 .left)
-    (rw (at-high .before .if5 .left, ← at-signs .signs .ensures, ← at-high .high .ensures, eq-eqb _ _ (c .before .before .if6 .taken))
-    (rw (← c .before .high2 .ensures, ← c .x-inf .ensures)))
+    (rw (at-high .before .if5 .left, ← at-high .high .ensures, eq-eqb _ _ (c .before .before .if6 .taken))
+    (rw (c .x-inf .ensures, c .before .high2 .ensures, at-signs .signs .ensures)))
 
 high-requires-3 : tie.Need-high-requires-3
 high-requires-3 c κs = search needs
@@ -92,7 +92,7 @@ returns-8 c =
     let at-if3 = at-if5 .before .before .before in
     rw (at-if3 .before .before .if1 .left, at-if3 .before .if2 .left, at-if3 .if3 .left, at-if5 .before .if4 .left, at-if5 .if5 .left)
     (rw (← at-high3 .before .before .high .ensures, ne-eqb _ _ (at-high3 .before .if6 .left), ← at-high3 .high3 .ensures)
-    (rw (ne-eqb _ _ (c .before .before .if7 .left), ← at-if5 .before .before .signs .ensures, ← c .before .quotient .ensures, ← c .switch2 .ensures)))
+    (rw (ne-eqb _ _ (c .before .before .if7 .left), c .switch2 .ensures, c .before .quotient .ensures, at-if5 .before .before .signs .ensures)))
 
 pub atan2-spec : {M : Type 1} → statement M
 atan2-spec =

@@ -38,7 +38,7 @@ returns-2 : tie.Need-returns-2
 unfolding quotient
 returns-2 c =
     let at-if1 = c .before .before .before in
-    rw (← at-if1 .before .before .high .ensures, ← at-if1 .before .high2 .ensures, lt-leb _ _ (at-if1 .if1 .left))
+    rw (← at-if1 .before .before .high .ensures, ← at-if1 .before .high2 .ensures, lt-leb (_ + 61 * 2 ^ 20) _ (at-if1 .if1 .left))
     (rw (← c .before .before .negative .ensures, c .before .if2 .taken, c .if3 .taken))
 
 abs-requires : tie.Need-abs-requires
@@ -54,7 +54,7 @@ returns-3 c =
     let at-if1 = at-negative .before in
     let off : (at-negative .negative .result && ltb (at-if1 .before .before .high .result + 60 * 2 ^ 20) (at-if1 .before .high2 .result)) ≡ false =
     ⊎-elim (λ w. rw (w .0 .taken, w .1 .left)) (λ w. rw (w .left)) (c .before .before .if2 .came) in
-    rw (← at-if1 .before .before .high .ensures, ← at-if1 .before .high2 .ensures, lt-leb _ _ (at-if1 .if1 .left), ← at-negative .negative .ensures)
+    rw (← at-if1 .before .before .high .ensures, ← at-if1 .before .high2 .ensures, lt-leb (_ + 61 * 2 ^ 20) _ (at-if1 .if1 .left), ← at-negative .negative .ensures)
     (rw (off, ← c .before .abs .ensures, ← c .atan .ensures))
 
 pub quotient-spec : {M : Type 1} → statement M

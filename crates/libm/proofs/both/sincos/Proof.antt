@@ -3,6 +3,7 @@ use borrow.Author.Needs.{needs}
 use borrow.Author.Tests.{le-leb, lt-leb}
 use Rattle.libm.specs.Trig.{sin, cos, quadrant, sincos}
 use Rattle.binary64.proofs.Patterns.{zero-by-zero}
+use Rattle.libm.proofs.Limit.{by-limit}
 use Rattle.libm.proofs.both.sincos.Statement.{statement}
 use Rattle.libm.proofs.both.sincos.Tie as tie
 
@@ -47,12 +48,12 @@ returns-2 c =
     let at-rem-pio2 = at-k-cos2 .before .before .before in
     let at-if1 = at-rem-pio2 .before .before .before in
     rw (← at-if1 .before .high .ensures, lt-leb _ _ (at-if1 .if1 .left), ← at-rem-pio2 .before .before .abs .ensures)
-    (rw (at-rem-pio2 .before .if2 .taken, ← at-rem-pio2 .rem-pio2 .ensures, ← at-k-cos2 .before .k-sin2 .ensures, ← at-k-cos2 .k-cos2 .ensures)
+    (rw (by-limit _ _ (at-rem-pio2 .before .if2 .taken), ← at-rem-pio2 .rem-pio2 .ensures, ← at-k-cos2 .before .k-sin2 .ensures, ← at-k-cos2 .k-cos2 .ensures)
     (rw (← c .before .before .switch .ensures, ← c .before .signed .ensures, c .switch2 .ensures)))
 
 returns-3 : tie.Need-returns-3
 unfolding sincos sin cos
-returns-3 c = rw (← c .before .before .before .high .ensures, lt-leb _ _ (c .before .before .if1 .left), ← c .before .abs .ensures, c .if2 .left, zero-by-zero)
+returns-3 c = rw (← c .before .before .before .high .ensures, lt-leb _ _ (c .before .before .if1 .left), ← c .before .abs .ensures, by-limit _ _ (c .if2 .left), zero-by-zero)
 
 pub sincos-spec : {M : Type 1} → statement M
 sincos-spec =

@@ -1,11 +1,9 @@
 -- `libm::trig::cos` meets its contract: each return is one case of the definition, and 0 / 0 is not-a-number (`zero-by-zero`). Assumes nothing.
 use borrow.Author.Needs.{needs}
 use borrow.Author.Tests.{le-leb, lt-leb}
-use mathlib.Core.Path.{_≡_}
-use mathlib.Core.Bool.{true}
-use lib.Ieee.{le}
-use Rattle.libm.specs.Trig.{cos, limit}
+use Rattle.libm.specs.Trig.{cos}
 use Rattle.binary64.proofs.Patterns.{zero-by-zero}
+use Rattle.libm.proofs.Limit.{by-limit}
 use Rattle.libm.proofs.trig.cos.Statement.{statement}
 use Rattle.libm.proofs.trig.cos.Tie as tie
 
@@ -32,13 +30,12 @@ returns-2 : tie.Need-returns-2
 unfolding cos
 returns-2 c =
     let at-abs = c .before .before .before in
-    let within : le (at-abs .abs .result) limit ≡ true = c .before .before .if2 .taken in
-    rw (← at-abs .before .before .high .ensures, lt-leb _ _ (at-abs .before .if1 .left), ← at-abs .abs .ensures, within)
+    rw (← at-abs .before .before .high .ensures, lt-leb _ _ (at-abs .before .if1 .left), ← at-abs .abs .ensures, by-limit _ _ (c .before .before .if2 .taken))
     (rw (← c .before .rem-pio2 .ensures, ← c .cos-of .ensures))
 
 returns-3 : tie.Need-returns-3
 unfolding cos
-returns-3 c = rw (← c .before .before .before .high .ensures, lt-leb _ _ (c .before .before .if1 .left), ← c .before .abs .ensures, c .if2 .left) zero-by-zero
+returns-3 c = rw (← c .before .before .before .high .ensures, lt-leb _ _ (c .before .before .if1 .left), ← c .before .abs .ensures, by-limit _ _ (c .if2 .left)) zero-by-zero
 
 pub cos-spec : {M : Type 1} → statement M
 cos-spec =

@@ -1,11 +1,9 @@
 -- `libm::trig::sin` meets its contract: each return is one case of the definition, and 0 / 0 is not-a-number (`zero-by-zero`). Assumes nothing.
 use borrow.Author.Needs.{needs}
 use borrow.Author.Tests.{le-leb, lt-leb}
-use mathlib.Core.Path.{_≡_}
-use mathlib.Core.Bool.{true}
-use lib.Ieee.{le}
-use Rattle.libm.specs.Trig.{sin, limit}
+use Rattle.libm.specs.Trig.{sin}
 use Rattle.binary64.proofs.Patterns.{zero-by-zero}
+use Rattle.libm.proofs.Limit.{by-limit}
 use Rattle.libm.proofs.trig.sin.Statement.{statement}
 use Rattle.libm.proofs.trig.sin.Tie as tie
 
@@ -36,13 +34,12 @@ unfolding sin
 returns-2 c =
     let at-if2 = c .before .before .before in
     let at-high = at-if2 .before .before .before in
-    let within : le (at-if2 .before .abs .result) limit ≡ true = at-if2 .if2 .taken in
-    rw (← at-high .high .ensures, lt-leb _ _ (at-if2 .before .before .if1 .left), ← at-if2 .before .abs .ensures, within)
+    rw (← at-high .high .ensures, lt-leb _ _ (at-if2 .before .before .if1 .left), ← at-if2 .before .abs .ensures, by-limit _ _ (at-if2 .if2 .taken))
     (rw (c .signed .ensures, c .before .sin-of .ensures, c .before .before .rem-pio2 .ensures))
 
 returns-3 : tie.Need-returns-3
 unfolding sin
-returns-3 c = rw (← c .before .before .before .high .ensures, lt-leb _ _ (c .before .before .if1 .left), ← c .before .abs .ensures, c .if2 .left) zero-by-zero
+returns-3 c = rw (← c .before .before .before .high .ensures, lt-leb _ _ (c .before .before .if1 .left), ← c .before .abs .ensures, by-limit _ _ (c .if2 .left)) zero-by-zero
 
 pub sin-spec : {M : Type 1} → statement M
 sin-spec =
