@@ -8,7 +8,7 @@ use lib.Dec.{T, leb, leb→le, nleb→lt}
 use lib.Ieee.{size}
 use lib.Ieee.Digits.{size-lt}
 use Rattle.binary64.specs.Root.{digits, floorRoot}
-use Rattle.binary64.proofs.Squares.{Floored, sq-suc, sq-two, sq-odd}
+use Rattle.binary64.proofs.Squares.{Floored}
 
 digit-law : (n r : ℕ) → Floored (n / 4) r → Floored n (cond (leb ((2 * r + 1) * (2 * r + 1)) n) (2 * r + 1) (2 * r))
 digit-law n r f = go (leb ((2 * r + 1) * (2 * r + 1)) n) (leb→le ((2 * r + 1) * (2 * r + 1)) n) (nleb→lt ((2 * r + 1) * (2 * r + 1)) n)
@@ -16,8 +16,8 @@ digit-law n r f = go (leb ((2 * r + 1) * (2 * r + 1)) n) (leb→le ((2 * r + 1) 
     go : (b : Bool) → (T b → (2 * r + 1) * (2 * r + 1) ≤ n) → (T (not b) → n < (2 * r + 1) * (2 * r + 1)) → Floored n (cond b (2 * r + 1) (2 * r))
     go true h k =
         let l : (2 * r + 1) * (2 * r + 1) ≤ n = h tt in
-        (l, omega (arith, sq-suc (2 * r + 1), sq-odd r, sq-suc r))
-    go false h k = (omega (arith, sq-two r), k tt)
+        (l, omega arith)
+    go false h k = (omega arith, k tt)
 
 half : (n p : ℕ) → n < 2 * p → n / 4 < p
 half n p h = omega arith

@@ -9,7 +9,6 @@ use native.Mathlib.Omega.{arith}
 use lib.Dec.{T, leb, leb→le, nleb→lt}
 use lib.Pow.{pow-add, pow-pos, pow-mono, shl-lt}
 use Rattle.binary64.specs.Root.{Nearest}
-use Rattle.binary64.proofs.Squares.{sq-suc, sq-odd}
 
 -- which grid m * 2 ^ j lies on, beside 2 ^ h
 pub either : (h j : ℕ) → (h ≤ j) ⊎ (j < h)
@@ -43,7 +42,7 @@ under-strict : (s c P w : ℕ) → s < c * P → c * c ≤ 4 * w → s * s < 4 *
 under-strict s c P w l h =
     let up : s + 1 ≤ c * P = omega arith in
     let sq : (s + 1) * (s + 1) ≤ c * P * (c * P) = mul-le-mul up up in
-    lt-of-lt-of-le (omega (arith, sq-suc s)) (le-trans sq (le-trans (le-of-eq (mul-mul-mul-comm c P c P)) (le-trans (mul-le-mul-right (P * P) h) (le-of-eq (mul-assoc 4 w (P * P))))))
+    lt-of-lt-of-le (omega arith) (le-trans sq (le-trans (le-of-eq (mul-mul-mul-comm c P c P)) (le-trans (mul-le-mul-right (P * P) h) (le-of-eq (mul-assoc 4 w (P * P))))))
 
 module _ (w h r m j : ℕ) (near : Nearest w r) (lo : 2 ^ 52 ≤ r) (big : 2 ^ 104 ≤ w) (held : m < 2 ^ 53) where
   pub nearer-above : r * 2 ^ h < m * 2 ^ j → 4 * (w * (2 ^ h * 2 ^ h)) < (r * 2 ^ h + m * 2 ^ j) * (r * 2 ^ h + m * 2 ^ j)
@@ -53,7 +52,7 @@ module _ (w h r m j : ℕ) (near : Nearest w r) (lo : 2 ^ 52 ≤ r) (big : 2 ^ 1
         let e : m * 2 ^ j ≡ y * 2 ^ h = coarse m j h g in
         let ry : r < y = lt-of-mul-lt-mul-right (2 ^ h) (subst (λ (x : ℕ). r * 2 ^ h < x) e l) in
         let c : (2 * r + 1) * 2 ^ h ≤ (r + y) * 2 ^ h = mul-le-mul-right (2 ^ h) (omega arith) in
-        over (r * 2 ^ h + m * 2 ^ j) (2 * r + 1) (2 ^ h) w (pow-pos h) (le-trans c (le-of-eq (add-mul r y (2 ^ h) ∙ ap (λ (x : ℕ). r * 2 ^ h + x) (sym e)))) (omega (arith, sq-odd r))
+        over (r * 2 ^ h + m * 2 ^ j) (2 * r + 1) (2 ^ h) w (pow-pos h) (le-trans c (le-of-eq (add-mul r y (2 ^ h) ∙ ap (λ (x : ℕ). r * 2 ^ h + x) (sym e)))) (omega arith)
     | inr g ↦ absurd (lt-irrefl (r * 2 ^ h) (lt-of-lt-of-le l (le-trans (below g) (mul-le-mul-right (2 ^ h) lo))))
   ]
     where
@@ -82,7 +81,7 @@ module _ (w h r m j : ℕ) (near : Nearest w r) (lo : 2 ^ 52 ≤ r) (big : 2 ^ 1
       low =
           let one : r - 1 + 1 ≡ r = omega arith in
           let sq : (r - 1 + 1) * (r - 1 + 1) ≡ r * r = ap (λ (x : ℕ). x * x) one in
-          omega (arith, sq-odd (r - 1), sq-suc (r - 1))
+          omega arith
 
       step : j < h → r * 2 ^ h + m * 2 ^ j ≤ (r + 2 ^ 52) * 2 ^ h
       step g = let f = fine m j h held g in omega (arith, add-mul r (2 ^ 52) (2 ^ h))

@@ -8,7 +8,7 @@ use lib.Pow.{pow-add, pow-mono, shl-lt}
 use lib.Ieee.{size}
 use lib.Ieee.Digits.{size-lt, size-reaches, size-le}
 use Rattle.binary64.specs.Root.{floorRoot, Nearest}
-use Rattle.binary64.proofs.Squares.{Floored, sq-lt, sq-suc}
+use Rattle.binary64.proofs.Squares.{Floored, sq-lt}
 use Rattle.binary64.proofs.Floor.{floored}
 use Rattle.binary64.proofs.Nearer.{either}
 
@@ -51,7 +51,7 @@ nearest-of w lo =
     let p : 1 < q + 1 = sq-lt 1 (q + 1) (omega arith) in
     elim (either w (q * q + q)) [
       | inl g ↦ (q, (omega arith, g))
-      | inr g ↦ (q + 1, (omega (arith, sq-suc q), omega (arith, sq-suc q)))
+      | inr g ↦ (q + 1, (omega arith, omega arith))
     ]
 
 pub least : (w r : ℕ) → 2 ^ 104 ≤ w → Nearest w r → 2 ^ 52 ≤ r
@@ -66,5 +66,5 @@ most w r hi near = elim (either r (2 ^ 53)) [
   | inr g ↦
       let l : 2 ^ 53 ≤ r - 1 = omega arith in
       let s : r * r ≡ (r - 1 + 1) * (r - 1 + 1) = ap (λ (x : ℕ). x * x) (omega arith) in
-      absurd (omega (arith, mul-le-mul l l, sq-suc (r - 1)))
+      absurd (omega (arith, mul-le-mul l l))
 ]

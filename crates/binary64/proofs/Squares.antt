@@ -5,15 +5,6 @@ use native.Mathlib.Nat.{le-antisymm, lt-of-not-le, not-le-of-lt, le-of-suc-le-su
 use native.Mathlib.Omega.{arith}
 use Rattle.binary64.specs.Root.{Nearest}
 
-pub sq-suc : (q : ℕ) → (q + 1) * (q + 1) ≡ q * q + 2 * q + 1
-sq-suc q = omega arith
-
-pub sq-two : (q : ℕ) → 2 * q * (2 * q) ≡ 4 * (q * q)
-sq-two q = omega arith
-
-pub sq-odd : (q : ℕ) → (2 * q + 1) * (2 * q + 1) ≡ 4 * (q * q) + 4 * q + 1
-sq-odd q = omega arith
-
 pub sq-lt : (a b : ℕ) → a * a < b * b → a < b
 sq-lt a b h = lt-of-not-le (λ (g : b ≤ a). not-le-of-lt h (mul-le-mul g g))
 
@@ -31,10 +22,10 @@ nearest-unique w r t a b =
     (le-of-suc-le-suc (lt-of-not-le (λ (g : suc r ≤ t). not-below w r t a b g)))
 
 pub nearest-low : (w q : ℕ) → 0 < q → Floored w q → 4 * w < (2 * q + 1) * (2 * q + 1) → Nearest w q
-nearest-low w q p f h = (omega arith, omega (arith, sq-odd q))
+nearest-low w q p f h = (omega arith, omega arith)
 
 pub nearest-high : (w q : ℕ) → Floored w q → (2 * q + 1) * (2 * q + 1) < 4 * w → Nearest w (q + 1)
-nearest-high w q f h = (omega (arith, sq-odd q, sq-suc q), omega (arith, sq-suc q))
+nearest-high w q f h = (omega arith, omega arith)
 
 pub no-tie : (w q : ℕ) → 4 * w ≡ (2 * q + 1) * (2 * q + 1) → ⊥
-no-tie w q h = omega (arith, sq-odd q)
+no-tie w q h = omega arith

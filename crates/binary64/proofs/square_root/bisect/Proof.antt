@@ -5,7 +5,6 @@ use native.Mathlib.Nat.{le-div-iff-mul-le, div-lt-iff-lt-mul}
 use native.Mathlib.Omega.{arith}
 use lib.Pow.{pow-pos}
 use Rattle.binary64.specs.Root.{Nearest}
-use Rattle.binary64.proofs.Squares.{sq-suc}
 use Rattle.binary64.proofs.square_root.bisect.Statement.{statement}
 use Rattle.binary64.proofs.square_root.bisect.Tie as tie
 
@@ -14,7 +13,7 @@ nearest low high m b d e f =
     let x : low * low + low < m * 2 ^ 52 = div-lt-iff-lt-mul (pow-pos 52) .0 f in
     let one : low + 1 ≡ high = omega arith in
     let sq : (low + 1) * (low + 1) ≡ high * high = ap (λ (y : ℕ). y * y) one in
-    (omega (arith, sq-suc low), le-div-iff-mul-le (pow-pos 52) .0 e)
+    (omega arith, le-div-iff-mul-le (pow-pos 52) .0 e)
 
 abbrev Inv-loop : tie.InvT-loop
 Inv-loop m low₀ high₀ low high = (low < high) × (high ≤ 2 ^ 53) × (m ≤ (high * high + high) / 2 ^ 52) × ((low * low + low) / 2 ^ 52 < m)
