@@ -67,9 +67,9 @@ module _ (p : ℕ → Bool) (beats : ℕ → ℕ → Bool) (R : Ranks p beats) w
   considered k true none e h = begin k (eq→T e) h
   considered k true (some b) e h = go (beats k b) refl
     where
-      go : (c : Bool) → beats k b ≡ c → IsChoice p beats (suc k) (cond c (some k) (some b))
-      go true w = take k b (eq→T e) h (eq→T w)
-      go false w = leave k b h (eq→F w)
+      go : (c : Bool) → beats k b ≡ c → IsChoice p beats (suc k) (consider beats true k (some b))
+      go true w = rw w (take k b (eq→T e) h (eq→T w))
+      go false w = rw w (leave k b h (eq→F w))
 
   passes-to : (k : ℕ) → IsChoice p beats k (choose p beats k)
   unfolding choose

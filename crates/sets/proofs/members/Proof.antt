@@ -1,4 +1,4 @@
--- After i turns the members below i are listed and k counts them, so that k is at most i, which is below 32.
+-- `sets::members` meets its contract. The invariant: the members below i are listed and k counts them, so that k is at most i (`count-le`), which is below 32. Assumes nothing.
 use borrow.Author.Needs.{needs}
 use mathlib.Core.Path.{_≡_, refl, sym, ap, ap₂, _∙_}
 use mathlib.Core.Logic.{⊎-elim}
