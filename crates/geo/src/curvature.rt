@@ -22,9 +22,11 @@ fn below_one(x: f64) -> u64
         return 0;
     }
     let bits = f64::to_bits(x);
+    // the bits of 1/2
     if bits < 0x3fe0_0000_0000_0000 {
         return 0;
     }
+    // the bits of 1
     if bits >= 0x3ff0_0000_0000_0000 {
         return 0;
     }

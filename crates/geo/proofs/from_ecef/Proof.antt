@@ -91,7 +91,7 @@ unfolding fromEcef
 returns c =
     let left = c .before .before in
     let start = left .before .before .before in
-    rw (← start .before .atan2 .ensures, ← start .hypot .ensures, last left, ← left .before .loop .inv .2, ← c .before .to-degrees .ensures, ← c .to-degrees2 .ensures)
+    rw (c .to-degrees2 .ensures, c .before .to-degrees .ensures, ← start .before .atan2 .ensures, ← start .hypot .ensures, last left, ← left .before .loop .inv .2)
 
 pub from-ecef-spec : {M : Type 1} → statement M
 from-ecef-spec =

@@ -1,10 +1,13 @@
--- `geo::from_mm` meets its contract: an element is an i64, so it comes back from its bits (`toZ-ofZ`). Assumes nothing.
-use borrow.Author.Needs.{needs}
-use lib.IntN.{pos}
+-- `geo::from_mm` meets its contract: an element is an i64, so it comes back from its bits (`element`). Assumes nothing.
+use mathlib.Core.Path.{_≡_, ap, _∙_}
+use borrow.Author.Needs.{needs, sfits-of}
+use lib.IntN.{ℤ, pos}
 use lib.ListN.{getD}
+use lib.Ieee.{Float}
+use mir.Val.{SFits, toZ, ofZ}
 use mir.ValLaws.{toZ-ofZ}
 use mir.Syntax.{w64}
-use Rattle.geo.specs.Geo.{fromMm}
+use Rattle.geo.specs.Geo.{metres, fromMm}
 use Rattle.geo.proofs.from_mm.Statement.{statement}
 use Rattle.geo.proofs.from_mm.Tie as tie
 
@@ -26,6 +29,10 @@ array-copy-out-metres-3 c = search needs
 metres-requires-3 : tie.Need-metres-requires-3
 metres-requires-3 c κs = search needs
 
+-- what `metres` gives of the bits of x is that of x
+element : (x : ℤ) {r : Float} → r ≡ metres (toZ w64 (ofZ w64 x)) → SFits w64 x → r ≡ metres x
+element x e h = e ∙ ap metres (toZ-ofZ w64 x h)
+
 returns : tie.Need-returns
 unfolding fromMm
 returns c =
@@ -33,12 +40,9 @@ returns c =
     let at-1 = at-2 .before .before in
     let mm = at-1 .before .before .args .t1 in
     rw (
-      at-1 .metres .ensures,
-      at-2 .metres2 .ensures,
-      c .metres3 .ensures,
-      toZ-ofZ w64 (getD mm 0 (pos 0)) (record { sfits = at-1 .before .metres-arg .given }),
-      toZ-ofZ w64 (getD mm 1 (pos 0)) (record { sfits = at-2 .before .metres-arg2 .given }),
-      toZ-ofZ w64 (getD mm 2 (pos 0)) (record { sfits = c .before .metres-arg3 .given }),
+      element (getD mm 0 (pos 0)) (at-1 .metres .ensures) (sfits-of (at-1 .before .metres-arg .given)),
+      element (getD mm 1 (pos 0)) (at-2 .metres2 .ensures) (sfits-of (at-2 .before .metres-arg2 .given)),
+      element (getD mm 2 (pos 0)) (c .metres3 .ensures) (sfits-of (c .before .metres-arg3 .given)),
     )
 
 pub from-mm-spec : {M : Type 1} → statement M

@@ -26,12 +26,12 @@ returns c =
     let at-prime-vertical = c .before .before .before .before .before .before .before .before in
     let at-sincos = at-prime-vertical .before .before .before in
     rw (
+      at-prime-vertical .prime-vertical .ensures,
+      at-prime-vertical .before .sincos2 .ensures,
+      at-prime-vertical .before .before .to-radians2 .ensures,
+      at-sincos .sincos .ensures,
+      at-sincos .before .to-radians .ensures,
       eccentricity,
-      ← at-sincos .before .to-radians .ensures,
-      ← at-sincos .sincos .ensures,
-      ← at-prime-vertical .before .before .to-radians2 .ensures,
-      ← at-prime-vertical .before .sincos2 .ensures,
-      ← at-prime-vertical .prime-vertical .ensures,
     )
 
 pub to-ecef-spec : {M : Type 1} → statement M
