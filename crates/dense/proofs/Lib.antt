@@ -1,3 +1,4 @@
+-- The laws that the proofs share: where entries lie, what a solve leaves as it was, the columns of a factor, unit vectors.
 pub mod Places
 pub mod Keeps
 pub mod Columns

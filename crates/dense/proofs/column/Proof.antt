@@ -1,7 +1,7 @@
 -- `dense::column` meets its contract. The invariant: l holds the column's rows from j + 1 to below i, and keeps its length. The measure is what is left of n. Assumes nothing.
 use mathlib.Core.Path.{_≡_, refl}
 use Prim.Native.Nat.{suc, _≤_, _+_, _-_}
-use native.Mathlib.Nat.{mul-one}
+use native.Mathlib.Nat.{mul-one, sub-self, add-sub-of-le}
 use native.Mathlib.Omega.{arith}
 use lib.ListN.{length}
 use Rattle.dense.specs.Factor.{columnTo}
@@ -20,10 +20,7 @@ add-i c = omega arith
 
 loop-holds : tie.Need-loop-holds Inv-loop μ-loop
 unfolding columnTo
-loop-holds c =
-    let j = c .before .before .args .j in
-    let none : j + 1 - (j + 1) ≡ 0 = omega arith in
-    (omega arith, omega arith, refl, rw none)
+loop-holds c = (omega arith, omega arith, refl, rw sub-self)
 
 mul-minus-dots : tie.Need-mul-minus-dots Inv-loop μ-loop
 mul-minus-dots c = omega (arith, start (c .before .before .loop .i) (c .before .before .before .before .before .args .n) (omega arith))
@@ -55,12 +52,11 @@ unfolding columnTo
 loop-again c =
     let loop = c .before .before .before .before .before .before .before .before .loop in
     let j = c .before .before .before .before .before .before .before .before .before .before .before .args .j in
-    let next : loop .i + 1 - (j + 1) ≡ suc (loop .i - (j + 1)) = omega arith in
-    let row : j + 1 + (loop .i - (j + 1)) ≡ loop .i = omega arith in (
+    let next : loop .i + 1 - (j + 1) ≡ suc (loop .i - (j + 1)) = omega arith in (
       omega arith,
       omega arith,
       omega arith,
-      rw (next, row, ← loop .inv .3, c .before .before .put .ensures, c .before .before .before .before .minus-dots .ensures, c .before .before .before .before .before .at .ensures) (simp mul-one),
+      rw (next, add-sub-of-le (loop .inv .0), ← loop .inv .3, c .before .before .put .ensures, c .before .before .before .before .minus-dots .ensures, c .before .before .before .before .before .at .ensures) (simp mul-one),
     )
 
 same-length : tie.Need-same-length Inv-loop μ-loop

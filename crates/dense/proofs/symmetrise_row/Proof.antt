@@ -1,6 +1,7 @@
 -- `dense::symmetrise_row` meets its contract. The invariant: m holds the means of the columns from row + 1 to below `column`, and keeps its length. The measure is what is left of n. Assumes nothing.
 use mathlib.Core.Path.{_≡_, refl}
 use Prim.Native.Nat.{suc, _≤_, _+_, _-_}
+use native.Mathlib.Nat.{sub-self, add-sub-of-le}
 use native.Mathlib.Omega.{arith}
 use lib.ListN.{length}
 use Rattle.dense.specs.Inverse.{symmetriseRowTo}
@@ -18,10 +19,7 @@ add-column c = omega arith
 
 loop-holds : tie.Need-loop-holds Inv-loop μ-loop
 unfolding symmetriseRowTo
-loop-holds c =
-    let row = c .before .args .row in
-    let none : row + 1 - (row + 1) ≡ 0 = omega arith in
-    (omega arith, omega arith, refl, rw none)
+loop-holds c = (omega arith, omega arith, refl, rw sub-self)
 
 at-requires : tie.Need-at-requires Inv-loop μ-loop
 at-requires c κs = omega arith
@@ -46,12 +44,11 @@ unfolding symmetriseRowTo
 loop-again c =
     let loop = c .before .before .before .before .before .before .before .before .before .before .before .before .before .loop in
     let row = c .before .before .before .before .before .before .before .before .before .before .before .before .before .before .before .args .row in
-    let next : loop .column + 1 - (row + 1) ≡ suc (loop .column - (row + 1)) = omega arith in
-    let column : row + 1 + (loop .column - (row + 1)) ≡ loop .column = omega arith in (
+    let next : loop .column + 1 - (row + 1) ≡ suc (loop .column - (row + 1)) = omega arith in (
       omega arith,
       omega arith,
       omega arith,
-      rw (next, column, ← loop .inv .3, c .before .before .put2 .ensures, c .before .before .before .before .before .before .put .ensures, c .before .before .before .before .before .before .before .before .at2 .ensures, c .before .before .before .before .before .before .before .before .before .before .at .ensures),
+      rw (next, add-sub-of-le (loop .inv .0), ← loop .inv .3, c .before .before .put2 .ensures, c .before .before .before .before .before .before .put .ensures, c .before .before .before .before .before .before .before .before .at2 .ensures, c .before .before .before .before .before .before .before .before .before .before .at .ensures),
     )
 
 same-length : tie.Need-same-length Inv-loop μ-loop
