@@ -1,7 +1,6 @@
 // The two methods of `Solution`: its covariance in the local frame, and what that says of the
 // horizontal position.
 ghost use mathlib.Core.Path.{_≡_};
-ghost use Prim.Native.Nat.{_<_};
 ghost use Rattle.limits.specs.Local.{plusRow, between, localRow, enuCovariance, horizontalSigmaM};
 use geo::Geodetic;
 

@@ -1,4 +1,4 @@
--- After a turns the first a sites stand in their places; each index is below 32 by what is asked.
+-- `problem::gather_sites` meets its contract. The invariant: the first a sites stand in their places. Each index is below 32 by what is asked. Assumes nothing.
 use borrow.Author.Needs.{needs}
 use mathlib.Core.Path.{_≡_, refl, ap₂, _∙_}
 use Prim.Native.Nat.{_≤_, _-_}

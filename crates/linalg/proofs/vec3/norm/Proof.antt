@@ -1,4 +1,4 @@
--- `linalg::norm` meets its contract: it is the root that `sqrt` ensures, of the product that `dot` ensures. Assumes nothing.
+-- `linalg::vec3::norm` meets its contract: it is the root that `sqrt` ensures, of the product that `dot` ensures. Assumes nothing.
 use borrow.Author.Needs.{needs}
 use Rattle.linalg.proofs.vec3.norm.Statement.{statement}
 use Rattle.linalg.proofs.vec3.norm.Tie as tie
