@@ -10,7 +10,7 @@ use lib.IntN.{ℤ}
 use lib.Dec.{T, T-not, not-T, ltb, ltb→lt, lt→ltb, nltb→le}
 use Rattle.sets.specs.Sets.{Subset, first, without, count}
 use Rattle.sets.specs.Choice.{IsChoice, Ranks}
-use Rattle.sets.proofs.Tests.{either, and-l, and-r, and-both}
+use Rattle.sets.proofs.Tests.{either, and-l, and-r, and-both, neither-below}
 use Rattle.sets.proofs.Belonging.{in-without}
 use Rattle.sets.proofs.Counting.{count-le, count-pos, count-some, count-without}
 use Rattle.sets.proofs.Choosing.{choose-is}
@@ -139,12 +139,7 @@ module _ (n : ℕ) (fails : ℕ → ℕ → Bool) where
   not-before A i j g h l = omega (arith, h .lowest i l (g .here), g .most j (h .here))
 
   one-goes : (A : Subset) (i j : ℕ) → Goes n fails A i → Goes n fails A j → i ≡ j
-  one-goes A i j g h = go (either (ltb i j)) (either (ltb j i))
-    where
-      go : T (ltb i j) ⊎ T (not (ltb i j)) → T (ltb j i) ⊎ T (not (ltb j i)) → i ≡ j
-      go (inl a) b = absurd (not-before A i j g h (ltb→lt i j a))
-      go (inr a) (inl b) = absurd (not-before A j i h g (ltb→lt j i b))
-      go (inr a) (inr b) = omega (arith, nltb→le i j a, nltb→le j i b)
+  one-goes A i j g h = neither-below i j (not-before A i j g h) (not-before A j i h g)
 
   one-left : {K L A : Subset} → Leaves n fails K A → Leaves n fails L A → K ≡ L
   one-left (done c) (done d) = refl

@@ -13,6 +13,7 @@ ghost use Rattle.screen.specs.Screen as removal;
 
 // The allowance beyond the baseline, millimetres: of solve.rs.
 const SCREEN_MARGIN_MM: u64 = 1_000_000;
+
 // The speed of light: it goes LIGHT_MM millimetres in LIGHT_PS picoseconds.
 const LIGHT_MM: u64 = 299_792_458;
 

@@ -9,7 +9,7 @@ use native.Mathlib.Numerals.{add-one}
 use lib.Dec.{T, T-not, not-T, ltb, leb, ltb→lt, nltb→le}
 use borrow.Author.Tests.{le-leb, lt-leb}
 use Rattle.sets.specs.Choice.{consider, choose, indexOf, FirstBest, IsChoice, Ranks, PassFindsChoice, OneChoice}
-use Rattle.sets.proofs.Tests.{either, eq→T, eq→F, lt-suc-cases}
+use Rattle.sets.proofs.Tests.{either, eq→T, eq→F, lt-suc-cases, neither-below}
 
 -- ---- the pass finds the choice
 module _ (p : ℕ → Bool) (beats : ℕ → ℕ → Bool) (R : Ranks p beats) where
@@ -83,16 +83,11 @@ pub choice-unique : OneChoice
 choice-unique p beats k none none h g = refl
 choice-unique p beats k none (some i) h g = absurd (T-not (p i) (h i (g .below)) (g .candidate))
 choice-unique p beats k (some i) none h g = absurd (T-not (p i) (g i (h .below)) (h .candidate))
-choice-unique p beats k (some i) (some j) h g = ap some (go (either (ltb i j)) (either (ltb j i)))
+choice-unique p beats k (some i) (some j) h g = ap some (neither-below i j (never i j h g) (never j i g h))
   where
     -- the later of two would beat the earlier
     never : (a b : ℕ) → FirstBest p beats k a → FirstBest p beats k b → a < b → ⊥
     never a b f s l = T-not (beats b a) (f .unbeaten b (s .below) (s .candidate)) (s .lowest a l (f .candidate))
-
-    go : T (ltb i j) ⊎ T (not (ltb i j)) → T (ltb j i) ⊎ T (not (ltb j i)) → i ≡ j
-    go (inl a) b = absurd (never i j h g (ltb→lt i j a))
-    go (inr a) (inl b) = absurd (never j i g h (ltb→lt j i b))
-    go (inr a) (inr b) = omega (arith, nltb→le i j a, nltb→le j i b)
 
 -- ---- the index that code holds
 below-or-none : (p : ℕ → Bool) (beats : ℕ → ℕ → Bool) (k : ℕ) → (choose p beats k ≡ none) ⊎ (indexOf (choose p beats k) < k)

@@ -3,7 +3,7 @@ use mathlib.Core.Path.{_≡_, refl, sym, subst}
 use mathlib.Core.Logic.{_⊎_, inl, inr, _≢_}
 use mathlib.Core.Bool.{Bool, true, false, not, _&&_, _||_}
 use Prim.Native.Nat.{ℕ, suc, _<_}
-use native.Mathlib.Nat.{eq-or-lt-of-le, le-of-suc-le-suc}
+use native.Mathlib.Nat.{le-antisymm, lt-of-not-le, eq-or-lt-of-le, le-of-suc-le-suc}
 use lib.Dec.{T, not-T, eqb, eqb→eq, eqb-refl}
 
 pub either : (b : Bool) → T b ⊎ T (not b)
@@ -58,3 +58,7 @@ ne→neqb i j h = not-T (eqb i j) (λ t. h (eqb→eq i j t))
 -- an index below suc k is k, or below it
 pub lt-suc-cases : (j k : ℕ) → j < suc k → (j ≡ k) ⊎ (j < k)
 lt-suc-cases j k h = eq-or-lt-of-le (le-of-suc-le-suc h)
+
+-- two indices of which neither is below the other are one
+pub neither-below : (i j : ℕ) → (i < j → ⊥) → (j < i → ⊥) → i ≡ j
+neither-below i j f g = le-antisymm (le-of-suc-le-suc (lt-of-not-le g)) (le-of-suc-le-suc (lt-of-not-le f))
