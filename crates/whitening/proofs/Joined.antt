@@ -12,7 +12,7 @@ use Rattle.geo.specs.declared.Geodetic.{Geodetic}
 use Rattle.problem.specs.Problem.{position}
 use Rattle.problem.specs.declared.Altitude.{Altitude}
 use Rattle.problem.specs.declared.Altitude.the-variants.{None, Barometric, Gnss}
-use Rattle.whitening.specs.Whitened.{Chosen, Rows, rows, blank, raw, rawRow, slopeAt, fillTo, upRow, pushAltitude, whitenedColumn, whitened}
+use Rattle.whitening.specs.Whitened.{Chosen, Rows, rows, blank, raw, rawRow, slopeAt, fillTo, upRow, placeOf, pushAltitude, whitenedColumn, whitened, beside}
 use Rattle.whitening.specs.declared.Equations.{Equations}
 use Rattle.whitening.specs.Normal.{costTo, normal, evaluated}
 use Rattle.whitening.proofs.Costs.{cost-is}
@@ -72,7 +72,16 @@ raw-slope : (sites z p : List Float) → (raw sites z p 1 ≡ slopeAt sites p 0)
 unfolding rawRow
 raw-slope sites z p = (refl, (refl, (refl, refl)))
 
-module _ (P : Chosen) (p : List Float) (g : Geodetic) (same : (w : Rows) → pushAltitude (P .altitude) g w ≡ pushAltitude (P .altitude) (fromEcef (position p)) w) where
+-- no row looks at the place where there is no altitude
+placed : (altitude : Altitude) (p : List Float) (w : Rows) → pushAltitude altitude (placeOf altitude p) w ≡ pushAltitude altitude (fromEcef (position p)) w
+placed None p w = refl
+placed (Barometric metres) p w = refl
+placed (Gnss metres) p w = refl
+
+module _ (P : Chosen) (p : List Float) (g : Geodetic) (place : g ≡ placeOf (P .altitude) p) where
+  same : (w : Rows) → pushAltitude (P .altitude) g w ≡ pushAltitude (P .altitude) (fromEcef (position p)) w
+  same w = ap (λ (at : Geodetic). pushAltitude (P .altitude) at w) place ∙ placed (P .altitude) p w
+
   abbrev part : Rows
   part = rows (P .k) (whitenedColumn P p 0) [] [] [] []
 
@@ -116,7 +125,11 @@ module _ (P : Chosen) (p : List Float) (g : Geodetic) (same : (w : Rows) → pus
       let all : rows (P .k) (whitenedColumn P p 0) a₂ b₂ c₂ d₂ ≡ received P p = rw (h .0, h .1 .0, h .1 .1 .0, h .1 .1 .1, f .0, f .1 .0, f .1 .1 .0, f .1 .1 .1, e .0, e .1, e .2, e .3, raws .0, raws .1 .0, raws .1 .1 .0, raws .1 .1 .1) in
       ap (λ (y : List Float). rows m y a b c d) residuals-are ∙ u (whitenedColumn P p 0) ∙ ap (λ (w : Rows). pushAltitude (P .altitude) g w) all ∙ same (received P p)
 
--- the normal equations, from the residuals and the slopes
-pub completes : (P : Chosen) (p : List Float) (e : Equations) (m : ℕ) (r a b c d : List Float) → e ≡ normal (rows m r a b c d) → rows m (whitened P p .r) a b c d ≡ whitened P p → r ≡ whitened P p .r → e ≡ evaluated P p
+-- the normal equations, from the slopes that are found and some residuals
+pub slopes-beside : (w : Rows) (e : Equations) (m : ℕ) (r s a b c d : List Float) → e ≡ normal (rows m r a b c d) → rows m s a b c d ≡ w → e ≡ normal (beside r w)
+slopes-beside w e m r s a b c d f h = f ∙ ap (λ (v : Rows). normal (beside r v)) h
+
+-- and from those of all rows
+pub completes : (P : Chosen) (p : List Float) (e : Equations) (r : List Float) → e ≡ normal (beside r (whitened P p)) → r ≡ whitened P p .r → e ≡ evaluated P p
 unfolding evaluated
-completes P p e m r a b c d f h g = f ∙ ap (λ (y : List Float). normal (rows m y a b c d)) g ∙ ap (λ (w : Rows). normal w) h
+completes P p e r f h = f ∙ ap (λ (y : List Float). normal (beside y (whitened P p))) h

@@ -61,6 +61,10 @@ unfoldable pub fillTo : (ℕ → Float) → List Float → ℕ → List Float
 fillTo f out zero = out
 fillTo f out (suc k) = set (fillTo f out k) k (f k)
 
+-- the ranges of k receptions, in an array of zeros for 32
+abbrev pub rangesTo : List Float → List Float → ℕ → List Float
+rangesTo sites p k = fillTo (rangeAt sites p) (replicate 32 nought) k
+
 -- room for 32 receptions and the altitude
 abbrev pub blank : List Float
 blank = replicate 33 nought
@@ -68,6 +72,12 @@ blank = replicate 33 nought
 -- entry j of all k rows, whitened: `whitener.forward`
 abbrev pub whitenedColumn : Chosen → List Float → ℕ → List Float
 whitenedColumn P p j = forward (P .whitener) (P .k) (fillTo (raw (P .sites) (P .z) p j) blank (P .k))
+
+-- the place of the altitude's row: `geo::from_ecef(x)`, which is asked for where there is an altitude; zeros stand for it elsewhere
+abbrev pub placeOf : Altitude → List Float → Geodetic
+placeOf None p = record { «lat_deg» = nought; «lon_deg» = nought; «height_m» = nought }
+placeOf (Barometric metres) p = fromEcef (position p)
+placeOf (Gnss metres) p = fromEcef (position p)
 
 -- the slopes of the altitude's row at a place: `up` over sigma, and 0
 unfoldable pub upRow : Float → Geodetic → List Float
@@ -91,3 +101,7 @@ pushAltitude (Gnss metres) g w = push w (heightRow metres (decimal 15 0) g)
 -- `whitened`: the rows of the receptions, and the altitude's
 unfoldable pub whitened : Chosen → List Float → Rows
 whitened P p = let column = whitenedColumn P p in pushAltitude (P .altitude) (fromEcef (position p)) (rows (P .k) (column 0) (column 1) (column 2) (column 3) (column 4))
+
+-- the slopes of the rows w beside residuals r
+abbrev pub beside : List Float → Rows → Rows
+beside r w = rows (w .count) r (w .a) (w .b) (w .c) (w .d)

@@ -1,16 +1,14 @@
 // Residuals and slopes, whitened. The rows stand in five arrays: the residuals in r, the slopes along
 // the four parameters in a, b, c and d.
 ghost use mathlib.Core.Path.{_≡_};
-ghost use Prim.Native.Nat.{ℕ, _+_, _≤_, _<_};
+ghost use Prim.Native.Nat.{_+_, _≤_, _<_};
 ghost use lib.ListN.{length, replicate, set};
 ghost use Rattle.dense.specs.Entries.{nth, at, minusDots};
 ghost use Rattle.dense.specs.Solve.{forward};
 ghost use mathlib.Core.List.{List, [], _∷_};
 ghost use lib.Ieee.{Float, neg};
 ghost use Rattle.binary64.specs.Steps.{nought, one};
-ghost use Rattle.problem.specs.Problem.{position};
-ghost use Rattle.geo.specs.Geo.{fromEcef};
-ghost use Rattle.whitening.specs.Whitened.{Rows, rangeAt, residual, slopeAt, fillTo, raw, upRow, heightRow, pushAltitude, blank, chosen, rows, whitened};
+ghost use Rattle.whitening.specs.Whitened.{rangeAt, residual, slopeAt, fillTo, raw, rangesTo, upRow, placeOf, pushAltitude, blank, chosen, rows, whitened};
 ghost use Rattle.whitening.specs.Normal.{costTo};
 use geo::Geodetic;
 use problem::Altitude;
@@ -83,7 +81,7 @@ pub fn residuals(
 ) -> f64
     requires { ⌜ (k ≤ 32) × (now r ≡ blank) × (now ranges ≡ replicate 32 nought) ⌝ }
     ensures { λ _. ⌜ (k < length (now (r .exit))) × (now (r .exit) ≡ forward (now (l .entry)) k (fillTo (raw (now (sites .entry)) (now (z .entry)) p 0) blank k)) ⌝ }
-    ensures { λ _. ⌜ ((i : ℕ) → i < k → nth (now (ranges .exit)) i ≡ rangeAt (now (sites .entry)) p i) ⌝ }
+    ensures { λ _. ⌜ now (ranges .exit) ≡ rangesTo (now (sites .entry)) p k ⌝ }
     ensures { λ s. ⌜ s ≡ costTo (now (r .exit)) k ⌝ }
 {
     raw_residuals(sites, z, k, p, &mut *r, &mut *ranges);
@@ -91,9 +89,9 @@ pub fn residuals(
     squares(&*r, k)
 }
 
-// The place that the altitude's row is of, where there is an altitude.
+// The place that the altitude's row is of; zeros where there is no altitude, since no row asks for it.
 pub fn place(altitude: Altitude, p: [f64; 4]) -> Geodetic
-    ensures { λ g. ⌜ ((w : Rows) → pushAltitude altitude g w ≡ pushAltitude altitude (fromEcef (position p)) w) ⌝ }
+    ensures { λ g. ⌜ g ≡ placeOf altitude p ⌝ }
 {
     match altitude {
         Altitude::None => Geodetic {
@@ -185,7 +183,7 @@ fn raw_slopes(
     d: &mut [f64; 33],
 )
     requires { ⌜ k ≤ 32 ⌝ }
-    requires { ⌜ ((i : ℕ) → i < k → nth (now ranges) i ≡ rangeAt (now sites) p i) ⌝ }
+    requires { ⌜ now ranges ≡ rangesTo (now sites) p k ⌝ }
     ensures { λ _. ⌜ now (a .exit) ≡ fillTo (slopeAt (now (sites .entry)) p 0) (now (a .entry)) k ⌝ }
     ensures { λ _. ⌜ now (b .exit) ≡ fillTo (slopeAt (now (sites .entry)) p 1) (now (b .entry)) k ⌝ }
     ensures { λ _. ⌜ now (c .exit) ≡ fillTo (slopeAt (now (sites .entry)) p 2) (now (c .entry)) k ⌝ }
@@ -308,8 +306,8 @@ pub fn slopes(
     d: &mut [f64; 33],
 ) -> usize
     requires { ⌜ k ≤ 32 ⌝ }
-    requires { ⌜ ((i : ℕ) → i < k → nth (now ranges) i ≡ rangeAt (now sites) p i) ⌝ }
-    requires { ⌜ ((w : Rows) → pushAltitude altitude geodetic w ≡ pushAltitude altitude (fromEcef (position p)) w) ⌝ }
+    requires { ⌜ now ranges ≡ rangesTo (now sites) p k ⌝ }
+    requires { ⌜ geodetic ≡ placeOf altitude p ⌝ }
     requires { ⌜ (now a ≡ blank) × (now b ≡ blank) × (now c ≡ blank) × (now d ≡ blank) ⌝ }
     ensures { λ m. ⌜ m ≤ 33 ⌝ }
     ensures { λ m. ⌜ ((z : List Float) → rows m (whitened (chosen k (now (sites .entry)) z (now (l .entry)) altitude) p .r) (now (a .exit)) (now (b .exit)) (now (c .exit)) (now (d .exit)) ≡ whitened (chosen k (now (sites .entry)) z (now (l .entry)) altitude) p) ⌝ }

@@ -1,12 +1,9 @@
 // The normal equations of whitened rows.
 ghost use mathlib.Core.Path.{_≡_};
 ghost use mathlib.Core.List.{List};
-ghost use Prim.Native.Nat.{ℕ, _≤_, _<_};
+ghost use Prim.Native.Nat.{_≤_};
 ghost use lib.Ieee.{Float};
-ghost use Rattle.dense.specs.Entries.{nth};
-ghost use Rattle.problem.specs.Problem.{position};
-ghost use Rattle.geo.specs.Geo.{fromEcef};
-ghost use Rattle.whitening.specs.Whitened.{Rows, rangeAt, pushAltitude, chosen, rows, whitened};
+ghost use Rattle.whitening.specs.Whitened.{rangesTo, placeOf, chosen, rows, whitened, beside};
 ghost use Rattle.whitening.specs.Normal.{plusProducts, plusMultiple, normal, evaluated};
 use crate::Equations;
 use crate::rows::place;
@@ -87,8 +84,8 @@ pub fn normal(
     }
 }
 
-// The normal equations of k receptions and the altitude at the parameters p, where their whitened
-// residuals, their ranges and the altitude's place are known.
+// The normal equations of the rows of k receptions and the altitude at the parameters p, where their
+// residuals r, their ranges and the altitude's place are known.
 pub fn completed(
     sites: &[f64; 96],
     k: usize,
@@ -100,9 +97,9 @@ pub fn completed(
     r: &[f64; 33],
 ) -> Equations
     requires { ⌜ k ≤ 32 ⌝ }
-    requires { ⌜ ((i : ℕ) → i < k → nth (now ranges) i ≡ rangeAt (now sites) p i) ⌝ }
-    requires { ⌜ ((w : Rows) → pushAltitude altitude geodetic w ≡ pushAltitude altitude (fromEcef (position p)) w) ⌝ }
-    ensures { λ e. ⌜ ((z : List Float) → now (r .entry) ≡ whitened (chosen k (now (sites .entry)) z (now (l .entry)) altitude) p .r → e ≡ evaluated (chosen k (now (sites .entry)) z (now (l .entry)) altitude) p) ⌝ }
+    requires { ⌜ now ranges ≡ rangesTo (now sites) p k ⌝ }
+    requires { ⌜ geodetic ≡ placeOf altitude p ⌝ }
+    ensures { λ e. ⌜ ((z : List Float) → e ≡ normal (beside (now (r .entry)) (whitened (chosen k (now (sites .entry)) z (now (l .entry)) altitude) p))) ⌝ }
 {
     let mut a = [0.0; 33];
     let mut b = [0.0; 33];

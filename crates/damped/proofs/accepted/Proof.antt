@@ -13,11 +13,11 @@ small-requires c κs = search needs
 
 returns : tie.Need-returns
 unfolding accepted
-returns c = rw (least-bits, ten-bits, ← c .before .before .max .ensures, ← c .before .small .ensures, c .if1 .taken)
+returns c = rw (c .before .before .max .ensures, least-bits, ten-bits, ← c .before .small .ensures, c .if1 .taken)
 
 returns-2 : tie.Need-returns-2
 unfolding accepted
-returns-2 c = rw (least-bits, ten-bits, ← c .before .before .max .ensures, ← c .before .small .ensures, c .if1 .left)
+returns-2 c = rw (c .before .before .max .ensures, least-bits, ten-bits, ← c .before .small .ensures, c .if1 .left)
 
 pub accepted-spec : {M : Type 1} → statement M
 accepted-spec =

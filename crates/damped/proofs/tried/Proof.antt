@@ -2,7 +2,7 @@
 use borrow.Author.Needs.{needs}
 use denote.Ref.{now}
 use Rattle.whitening.specs.Whitened.{chosen}
-use Rattle.whitening.proofs.Joined.{residuals-joined, cost-joined}
+use Rattle.whitening.proofs.Joined.{residuals-joined, cost-joined, completes}
 use Rattle.damped.proofs.Limit.{above, at-once, taken, left}
 use Rattle.damped.proofs.tried.Statement.{statement}
 use Rattle.damped.proofs.tried.Tie as tie
@@ -43,7 +43,7 @@ returns-2 c =
     let same = c .before .before .before .before .before .before .before .before .place .ensures in
     let pushed = c .before .before .before .before .before .before .push-height .ensures in
     let cost = cost-joined P (at .candidate) _ same column (pushed .0) _ (pushed .1) in
-    let next = c .before .completed .ensures (now (at .z)) (residuals-joined P (at .candidate) _ same column (pushed .0)) in
+    let next = completes P (at .candidate) _ _ (c .before .completed .ensures (now (at .z))) (residuals-joined P (at .candidate) _ same column (pushed .0)) in
     taken P (at .state) (at .x) (at .candidate) _ _ _ cost (c .before .before .before .before .before .better .ensures) (c .before .before .before .before .if2 .taken) _ next (c .accepted .ensures)
 
 rejected-requires-2 : tie.Need-rejected-requires-2

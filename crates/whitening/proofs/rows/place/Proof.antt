@@ -1,4 +1,4 @@
--- `whitening::rows::place` meets its contract. By the kinds of altitude: without one the place does not matter. Assumes nothing.
+-- `whitening::rows::place` meets its contract. By the kinds of altitude. Assumes nothing.
 use borrow.Author.Needs.{needs}
 use Rattle.whitening.proofs.rows.place.Statement.{statement}
 use Rattle.whitening.proofs.rows.place.Tie as tie
@@ -37,13 +37,13 @@ from-ecef-requires-2 : tie.Need-from-ecef-requires-2
 from-ecef-requires-2 c κs = search needs
 
 returns : tie.Need-returns
-returns c = λ w. rw (c .enum-told .given .1)
+returns c = rw (c .enum-told .given .1)
 
 returns-2 : tie.Need-returns-2
-returns-2 c = λ w. rw (c .from-ecef .ensures)
+returns-2 c = rw (c .before .before .altitude .given .1, c .from-ecef .ensures)
 
 returns-3 : tie.Need-returns-3
-returns-3 c = λ w. rw (c .from-ecef2 .ensures)
+returns-3 c = rw (c .before .before .altitude2 .given .1, c .from-ecef2 .ensures)
 
 pub place-spec : {M : Type 1} → statement M
 place-spec =

@@ -7,11 +7,10 @@ use native.Mathlib.Omega.{arith}
 use denote.Ref.{now}
 use lib.ListN.{length}
 use lib.Ieee.{Float}
-use Rattle.dense.specs.Entries.{nth}
 use Rattle.dense.specs.Solve.{forward}
 use Rattle.dense.proofs.Places.{room}
 use Rattle.whitening.specs.Whitened.{rangeAt, raw, fillTo, blank}
-use Rattle.whitening.proofs.Costs.{room-left, fill-at}
+use Rattle.whitening.proofs.Costs.{room-left}
 use Rattle.whitening.proofs.rows.residuals.Statement.{statement}
 use Rattle.whitening.proofs.rows.residuals.Tie as tie
 
@@ -33,8 +32,7 @@ returns c =
     let f = raw (now (at .sites)) (now (at .z)) (at .p) 0 in
     let solved = c .before .before .forward .ensures ∙ ap (λ (y : List Float). forward l (at .k) y) (raws .0 ∙ ap (λ (y : List Float). fillTo f y (at .k)) (pre .1)) in
     let long : length (forward l (at .k) (fillTo f blank (at .k))) ≡ 33 = room-left l f blank (at .k) (at .k) in
-    let wide : length (now (at .ranges)) ≡ 32 = ap length (pre .2) in
-    ((subst (λ (y : List Float). at .k < length y) (sym solved) (omega (arith, long)), solved), (λ i h. ap (λ (y : List Float). nth y i) (raws .1) ∙ fill-at (rangeAt (now (at .sites)) (at .p)) (now (at .ranges)) (at .k) i (omega (arith, wide)) h, c .squares .ensures))
+    ((subst (λ (y : List Float). at .k < length y) (sym solved) (omega (arith, long)), solved), (raws .1 ∙ ap (λ (y : List Float). fillTo (rangeAt (now (at .sites)) (at .p)) y (at .k)) (pre .2), c .squares .ensures))
 
 pub residuals-spec : {M : Type 1} → statement M
 residuals-spec =

@@ -2,7 +2,7 @@
 use borrow.Author.Needs.{needs}
 use denote.Ref.{now}
 use Rattle.whitening.specs.Whitened.{chosen}
-use Rattle.whitening.proofs.Joined.{residuals-joined}
+use Rattle.whitening.proofs.Joined.{residuals-joined, completes}
 use Rattle.whitening.proofs.sums.evaluated.Statement.{statement}
 use Rattle.whitening.proofs.sums.evaluated.Tie as tie
 
@@ -22,7 +22,7 @@ returns : tie.Need-returns
 returns c =
     let at = c .before .before .before .before .before .before .before .before .before .args in
     let P = chosen (at .k) (now (at .sites)) (now (at .z)) (now (at .l)) (at .altitude) in
-    c .completed .ensures (now (at .z)) (residuals-joined P (at .p) _ (c .before .before .before .before .before .place .ensures) (c .before .before .before .before .before .before .residuals .ensures .0 .1) (c .before .before .before .push-height .ensures .0))
+    completes P (at .p) _ _ (c .completed .ensures (now (at .z))) (residuals-joined P (at .p) _ (c .before .before .before .before .before .place .ensures) (c .before .before .before .before .before .before .residuals .ensures .0 .1) (c .before .before .before .push-height .ensures .0))
 
 pub evaluated-spec : {M : Type 1} → statement M
 evaluated-spec =

@@ -1,5 +1,6 @@
 -- `whitening::timing::whitener` meets its contract: the promises of `zeros`, `covariance` and `cholesky`, put together. Assumes nothing.
 use borrow.Author.Needs.{needs}
+use mathlib.Core.Path.{_∙_}
 use Rattle.whitening.specs.Covariance.{whitener}
 use Rattle.whitening.proofs.timing.whitener.Statement.{statement}
 use Rattle.whitening.proofs.timing.whitener.Tie as tie
@@ -15,7 +16,7 @@ cholesky-requires c κs = search needs
 
 returns : tie.Need-returns
 unfolding whitener
-returns c = rw (c .cholesky .ensures, c .before .before .before .before .covariance .ensures, c .before .before .before .before .before .before .zeros .ensures)
+returns c = c .cholesky .ensures ∙ rw (c .before .before .before .before .covariance .ensures, c .before .before .before .before .before .before .zeros .ensures)
 
 pub whitener-spec : {M : Type 1} → statement M
 whitener-spec = tie.close (tie.spec zeros-requires covariance-requires cholesky-requires returns)
