@@ -1,4 +1,4 @@
--- The bits of the constants, the turns of a run, the order of floats, and sums of squares.
+-- The bits of the constants, the turns of a run, the order of floats, sums of squares, and costs above a limit.
 pub mod Constants
 pub mod Turns
 pub mod Order

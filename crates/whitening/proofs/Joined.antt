@@ -18,11 +18,11 @@ use Rattle.whitening.specs.Normal.{costTo, normal, evaluated}
 use Rattle.whitening.proofs.Costs.{cost-is}
 
 -- the constants have the bits that the code has
-pub baro-bits : decimal 100 0 ≡ # 0x4059000000000000
+baro-bits : decimal 100 0 ≡ # 0x4059000000000000
 unfolding round ofBits
 baro-bits = refl
 
-pub gnss-bits : decimal 15 0 ≡ # 0x402E000000000000
+gnss-bits : decimal 15 0 ≡ # 0x402E000000000000
 unfolding round ofBits
 gnss-bits = refl
 

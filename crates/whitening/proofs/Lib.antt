@@ -1,4 +1,3 @@
 pub mod Costs
 pub mod Turns
 pub mod Joined
-pub mod Lengths

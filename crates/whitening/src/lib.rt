@@ -2,6 +2,7 @@
 // and slopes that the factor whitens, the altitude's row after them, and the normal equations of all
 // rows. From `covariance` to `normal` of solve.rs.
 mod rows;
+mod slopes;
 mod sums;
 mod timing;
 

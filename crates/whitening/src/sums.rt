@@ -9,7 +9,7 @@ use crate::Equations;
 use crate::rows::place;
 use crate::rows::push_height;
 use crate::rows::residuals;
-use crate::rows::slopes;
+use crate::slopes::slopes;
 use geo::Geodetic;
 use problem::Altitude;
 

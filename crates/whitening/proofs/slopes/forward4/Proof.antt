@@ -1,19 +1,26 @@
--- `whitening::rows::forward4` meets its contract. The invariant: each array is solved in its rows below i, and the others hold what they brought (`forward-row`). The measure is what is left of n. Assumes nothing.
+-- `whitening::slopes::forward4` meets its contract. The invariant: each array is solved in its rows below i, and the others hold what they brought (`forward-row`). The measure is what is left of n. Assumes nothing.
 use borrow.Author.Needs.{needs}
 use mathlib.Core.Path.{_≡_, refl, _∙_}
-use Prim.Native.Nat.{_≤_, _-_}
+use Prim.Native.Nat.{_≤_, _<_, _+_, _*_, _-_}
 use native.Mathlib.Omega.{arith}
 use Rattle.dense.specs.Solve.{forwardTo}
 use Rattle.dense.proofs.Places.{place, room}
 use Rattle.whitening.proofs.Turns.{forward-row}
-use Rattle.whitening.proofs.rows.forward4.Statement.{statement}
-use Rattle.whitening.proofs.rows.forward4.Tie as tie
+use Rattle.whitening.proofs.slopes.forward4.Statement.{statement}
+use Rattle.whitening.proofs.slopes.forward4.Tie as tie
 
 abbrev Inv-loop : tie.InvT-loop
 Inv-loop l n a₀ b₀ c₀ d₀ i₀ a b c d i = (i ≤ n) × (a ≡ forwardTo l n a₀ i) × (b ≡ forwardTo l n b₀ i) × (c ≡ forwardTo l n c₀ i) × (d ≡ forwardTo l n d₀ i)
 
 abbrev μ-loop : tie.MeasureT-loop
 μ-loop l n a₀ b₀ c₀ d₀ i₀ a b c d i = n - i
+
+-- the diagonal entry of a turn lies in the factor
+inside : (c : tie.In-loop Inv-loop μ-loop) → c .before .loop .i * c .before .before .args .n + c .before .loop .i < 1024
+inside c =
+    let i = c .before .loop .i in
+    let n = c .before .before .args .n in
+    omega (arith, place i i n (omega arith) (omega arith), room n (omega arith))
 
 loop-holds : tie.Need-loop-holds Inv-loop μ-loop
 unfolding forwardTo
@@ -47,28 +54,16 @@ minus-dots4-requires : tie.Need-minus-dots4-requires Inv-loop μ-loop
 minus-dots4-requires c κs = search needs
 
 mul-root-2 : tie.Need-mul-root-2 Inv-loop μ-loop
-mul-root-2 c =
-    let i = c .before .before .before .before .before .before .before .before .before .before .loop .i in
-    let n = c .before .before .before .before .before .before .before .before .before .before .before .args .n in
-    omega (arith, place i i n (omega arith) (omega arith), room n (omega arith))
+mul-root-2 c = omega (arith, inside (c .before .before .before .before .before .before .before .before .before))
 
 add-root : tie.Need-add-root Inv-loop μ-loop
-add-root c =
-    let i = c .before .before .before .before .before .before .before .before .before .before .loop .i in
-    let n = c .before .before .before .before .before .before .before .before .before .before .before .args .n in
-    omega (arith, place i i n (omega arith) (omega arith), room n (omega arith))
+add-root c = omega (arith, inside (c .before .before .before .before .before .before .before .before .before))
 
 mul-root-3 : tie.Need-mul-root-3 Inv-loop μ-loop
-mul-root-3 c =
-    let i = c .before .before .before .before .before .before .before .before .before .before .loop .i in
-    let n = c .before .before .before .before .before .before .before .before .before .before .before .args .n in
-    omega (arith, place i i n (omega arith) (omega arith), room n (omega arith))
+mul-root-3 c = omega (arith, inside (c .before .before .before .before .before .before .before .before .before))
 
 element-copy-out-root-2 : tie.Need-element-copy-out-root-2 Inv-loop μ-loop
-element-copy-out-root-2 c =
-    let i = c .before .before .before .before .before .before .before .before .before .before .loop .i in
-    let n = c .before .before .before .before .before .before .before .before .before .before .before .args .n in
-    omega (arith, place i i n (omega arith) (omega arith), room n (omega arith))
+element-copy-out-root-2 c = omega (arith, inside (c .before .before .before .before .before .before .before .before .before))
 
 array-read-t24 : tie.Need-array-read-t24 Inv-loop μ-loop
 array-read-t24 c = search needs

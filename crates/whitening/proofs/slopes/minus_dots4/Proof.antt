@@ -1,19 +1,25 @@
--- `whitening::rows::minus_dots4` meets its contract. The invariant: each sum has its first k products taken off. The measure is what is left of i. Assumes nothing.
+-- `whitening::slopes::minus_dots4` meets its contract. The invariant: each sum has its first k products taken off. The measure is what is left of i. Assumes nothing.
 use borrow.Author.Needs.{needs}
 use mathlib.Core.Path.{_≡_, refl}
-use Prim.Native.Nat.{_≤_, _-_}
+use Prim.Native.Nat.{_≤_, _<_, _+_, _*_, _-_}
 use native.Mathlib.Numerals.{add-one}
 use native.Mathlib.Omega.{arith}
 use Rattle.dense.specs.Entries.{nth, at, minusDots}
 use Rattle.dense.proofs.Places.{place, room}
-use Rattle.whitening.proofs.rows.minus_dots4.Statement.{statement}
-use Rattle.whitening.proofs.rows.minus_dots4.Tie as tie
+use Rattle.whitening.proofs.slopes.minus_dots4.Statement.{statement}
+use Rattle.whitening.proofs.slopes.minus_dots4.Tie as tie
 
 abbrev Inv-loop : tie.InvT-loop
 Inv-loop l n i a b c d v0₀ v1₀ v2₀ v3₀ start k₀ v0 v1 v2 v3 k = (k ≤ i) × (v0 ≡ minusDots (at l n i) (nth a) k v0₀) × (v1 ≡ minusDots (at l n i) (nth b) k v1₀) × (v2 ≡ minusDots (at l n i) (nth c) k v2₀) × (v3 ≡ minusDots (at l n i) (nth d) k v3₀)
 
 abbrev μ-loop : tie.MeasureT-loop
 μ-loop l n i a b c d v0₀ v1₀ v2₀ v3₀ start k₀ v0 v1 v2 v3 k = i - k
+
+-- the entry of a turn lies in the factor
+inside : (c : tie.In-loop Inv-loop μ-loop) → c .before .before .args .i * c .before .before .args .n + c .before .loop .k < 1024
+inside c =
+    let at = c .before .before .args in
+    omega (arith, place (at .i) (c .before .loop .k) (at .n) (omega arith) (omega arith), room (at .n) (omega arith))
 
 array-read-v0 : tie.Need-array-read-v0 Inv-loop μ-loop
 array-read-v0 c = search needs
@@ -35,13 +41,13 @@ unfolding minusDots
 loop-holds c = (omega arith, refl, refl, refl, refl)
 
 add-e : tie.Need-add-e Inv-loop μ-loop
-add-e c = omega (arith, place (c .before .before .args .i) (c .before .loop .k) (c .before .before .args .n) (omega arith) (omega arith), room (c .before .before .args .n) (omega arith))
+add-e c = omega (arith, inside c)
 
 mul-e : tie.Need-mul-e Inv-loop μ-loop
-mul-e c = omega (arith, place (c .before .before .args .i) (c .before .loop .k) (c .before .before .args .n) (omega arith) (omega arith), room (c .before .before .args .n) (omega arith))
+mul-e c = omega (arith, inside c)
 
 element-copy-out-e : tie.Need-element-copy-out-e Inv-loop μ-loop
-element-copy-out-e c = omega (arith, place (c .before .before .args .i) (c .before .loop .k) (c .before .before .args .n) (omega arith) (omega arith), room (c .before .before .args .n) (omega arith))
+element-copy-out-e c = omega (arith, inside c)
 
 mul-v0 : tie.Need-mul-v0 Inv-loop μ-loop
 mul-v0 c = search needs

@@ -1,4 +1,4 @@
--- `whitening::rows::raw_slopes` meets its contract. The invariant: each array is filled below i. The measure is what is left of k. Assumes nothing.
+-- `whitening::slopes::raw_slopes` meets its contract. The invariant: each array is filled below i. The measure is what is left of k. Assumes nothing.
 use borrow.Author.Needs.{needs}
 use mathlib.Core.Path.{_≡_, refl, ap, _∙_}
 use mathlib.Core.List.{List}
@@ -11,8 +11,8 @@ use Rattle.binary64.specs.Steps.{one}
 use Rattle.dense.specs.Entries.{nth}
 use Rattle.whitening.specs.Whitened.{rangeAt, slopeAt, fillTo}
 use Rattle.whitening.proofs.Costs.{fill-at}
-use Rattle.whitening.proofs.rows.raw_slopes.Statement.{statement}
-use Rattle.whitening.proofs.rows.raw_slopes.Tie as tie
+use Rattle.whitening.proofs.slopes.raw_slopes.Statement.{statement}
+use Rattle.whitening.proofs.slopes.raw_slopes.Tie as tie
 
 abbrev Inv-loop : tie.InvT-loop
 Inv-loop sites k p ranges a₀ b₀ c₀ d₀ i₀ a b c d i = (i ≤ k) × (a ≡ fillTo (slopeAt sites p 0) a₀ i) × (b ≡ fillTo (slopeAt sites p 1) b₀ i) × (c ≡ fillTo (slopeAt sites p 2) c₀ i) × (d ≡ fillTo (λ i. neg one) d₀ i)

@@ -1,8 +1,8 @@
--- `whitening::rows::up_row` meets its contract. By the promise of `enu_basis`. Assumes nothing.
+-- `whitening::slopes::up_row` meets its contract. By the promise of `enu_basis`. Assumes nothing.
 use borrow.Author.Needs.{needs}
 use Rattle.whitening.specs.Whitened.{upRow}
-use Rattle.whitening.proofs.rows.up_row.Statement.{statement}
-use Rattle.whitening.proofs.rows.up_row.Tie as tie
+use Rattle.whitening.proofs.slopes.up_row.Statement.{statement}
+use Rattle.whitening.proofs.slopes.up_row.Tie as tie
 
 enu-basis-requires : tie.Need-enu-basis-requires
 enu-basis-requires c κs = search needs

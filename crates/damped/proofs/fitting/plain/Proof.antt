@@ -1,8 +1,8 @@
--- `damped::plain` meets its contract. The step that `descent` finds decides by the definition's test. Assumes nothing.
+-- `damped::fitting::plain` meets its contract. The step that `descent` finds decides by the definition's test. Assumes nothing.
 use borrow.Author.Needs.{needs}
 use Rattle.damped.specs.Damped.{plain}
-use Rattle.damped.proofs.plain.Statement.{statement}
-use Rattle.damped.proofs.plain.Tie as tie
+use Rattle.damped.proofs.fitting.plain.Statement.{statement}
+use Rattle.damped.proofs.fitting.plain.Tie as tie
 
 descent-requires : tie.Need-descent-requires
 descent-requires c κs = search needs

@@ -1,10 +1,10 @@
--- `whitening::rows::push_up` meets its contract. By the kinds of altitude: the promises of `up_row` and `put_slopes` (`barometric-up`, `gnss-up`). Assumes nothing.
+-- `whitening::slopes::push_up` meets its contract. By the kinds of altitude: the promises of `up_row` and `put_slopes` (`barometric-up`, `gnss-up`). Assumes nothing.
 use borrow.Author.Needs.{needs}
 use native.Mathlib.Omega.{arith}
 use denote.Ref.{now}
 use Rattle.whitening.proofs.Joined.{barometric-up, gnss-up}
-use Rattle.whitening.proofs.rows.push_up.Statement.{statement}
-use Rattle.whitening.proofs.rows.push_up.Tie as tie
+use Rattle.whitening.proofs.slopes.push_up.Statement.{statement}
+use Rattle.whitening.proofs.slopes.push_up.Tie as tie
 
 enum-told : tie.Need-enum-told
 enum-told c = search needs

@@ -1,10 +1,10 @@
--- `whitening::rows::slopes` meets its contract. The promises of `raw_slopes`, `forward4` and `push_up`, joined (`slopes-joined`). Assumes nothing.
+-- `whitening::slopes::slopes` meets its contract. The promises of `raw_slopes`, `forward4` and `push_up`, joined (`slopes-joined`). Assumes nothing.
 use borrow.Author.Needs.{needs}
 use denote.Ref.{now}
 use Rattle.whitening.specs.Whitened.{chosen}
 use Rattle.whitening.proofs.Joined.{slopes-joined}
-use Rattle.whitening.proofs.rows.slopes.Statement.{statement}
-use Rattle.whitening.proofs.rows.slopes.Tie as tie
+use Rattle.whitening.proofs.slopes.slopes.Statement.{statement}
+use Rattle.whitening.proofs.slopes.slopes.Tie as tie
 
 raw-slopes-requires : tie.Need-raw-slopes-requires
 raw-slopes-requires c κs = (c .before .before .before .before .pre .0, c .before .before .before .before .pre .1 .0)

@@ -1,7 +1,7 @@
--- `whitening::rows::slope_row` meets its contract. The promises of `site` and `sub`, put together. Assumes nothing.
+-- `whitening::slopes::slope_row` meets its contract. The promises of `site` and `sub`, put together. Assumes nothing.
 use borrow.Author.Needs.{needs}
-use Rattle.whitening.proofs.rows.slope_row.Statement.{statement}
-use Rattle.whitening.proofs.rows.slope_row.Tie as tie
+use Rattle.whitening.proofs.slopes.slope_row.Statement.{statement}
+use Rattle.whitening.proofs.slopes.slope_row.Tie as tie
 
 array-read-t10 : tie.Need-array-read-t10
 array-read-t10 c = search needs

@@ -1,4 +1,4 @@
--- `damped::run` meets its contract. The invariant: what is left of the run from this state gives what the whole run gives. Each turn and each end is one of the run (`turn`, `ended`). Assumes nothing.
+-- `damped::fitting::run` meets its contract. The invariant: what is left of the run from this state gives what the whole run gives. Each turn and each end is one of the run (`turn`, `ended`). Assumes nothing.
 use borrow.Author.Needs.{needs}
 use mathlib.Core.Path.{_≡_, refl, _∙_}
 use mathlib.Core.Logic.{⊎-elim}
@@ -8,8 +8,8 @@ use Rattle.whitening.specs.Whitened.{chosen}
 use Rattle.damped.specs.declared.Verdict.the-variants.{Accepted, Converged, Rejected, Stopped, Failed}
 use Rattle.damped.specs.Damped.{run}
 use Rattle.damped.proofs.Turns.{turn, ended}
-use Rattle.damped.proofs.run.Statement.{statement}
-use Rattle.damped.proofs.run.Tie as tie
+use Rattle.damped.proofs.fitting.run.Statement.{statement}
+use Rattle.damped.proofs.fitting.run.Tie as tie
 
 abbrev Inv-loop : tie.InvT-loop
 Inv-loop sites z k l altitude state₀ n₀ state n = let P = chosen k sites z l altitude in (n ≤ 50) × (run P (50 - n) state ≡ run P 50 state₀)

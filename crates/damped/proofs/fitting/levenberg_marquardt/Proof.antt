@@ -1,9 +1,9 @@
--- `damped::levenberg_marquardt` meets its contract. It is the run from the state at the start (`begun`). Assumes nothing.
+-- `damped::fitting::levenberg_marquardt` meets its contract. It is the run from the state at the start (`begun`). Assumes nothing.
 use borrow.Author.Needs.{needs}
 use mathlib.Core.Path.{_∙_}
 use Rattle.damped.proofs.Turns.{begun}
-use Rattle.damped.proofs.levenberg_marquardt.Statement.{statement}
-use Rattle.damped.proofs.levenberg_marquardt.Tie as tie
+use Rattle.damped.proofs.fitting.levenberg_marquardt.Statement.{statement}
+use Rattle.damped.proofs.fitting.levenberg_marquardt.Tie as tie
 
 evaluated-requires : tie.Need-evaluated-requires
 evaluated-requires c κs = search needs

@@ -1,8 +1,8 @@
--- `whitening::rows::put_slopes` meets its contract. Four stores. Assumes nothing.
+-- `whitening::slopes::put_slopes` meets its contract. Four stores. Assumes nothing.
 use borrow.Author.Needs.{needs}
 use mathlib.Core.Path.{refl}
-use Rattle.whitening.proofs.rows.put_slopes.Statement.{statement}
-use Rattle.whitening.proofs.rows.put_slopes.Tie as tie
+use Rattle.whitening.proofs.slopes.put_slopes.Statement.{statement}
+use Rattle.whitening.proofs.slopes.put_slopes.Tie as tie
 
 array-read-a : tie.Need-array-read-a
 array-read-a c = search needs
