@@ -40,10 +40,10 @@ returns-2 c =
     let at = c .before .before .before .before .before .before .before .before .before .before .before .before .before .args in
     let P = chosen (at .k) (now (at .sites)) (now (at .z)) (now (at .l)) (at .altitude) in
     let column = c .before .before .before .before .before .before .before .before .before .before .residuals .ensures .0 .1 in
-    let same = c .before .before .before .before .before .before .before .before .place .ensures in
+    let place = c .before .before .before .before .before .before .before .before .place .ensures in
     let pushed = c .before .before .before .before .before .before .push-height .ensures in
-    let cost = cost-joined P (at .candidate) _ same column (pushed .0) _ (pushed .1) in
-    let next = completes P (at .candidate) _ _ (c .before .completed .ensures (now (at .z))) (residuals-joined P (at .candidate) _ same column (pushed .0)) in
+    let cost = cost-joined P (at .candidate) _ place column (pushed .0) _ (pushed .1) in
+    let next = completes P (at .candidate) _ _ (c .before .completed .ensures (now (at .z))) (residuals-joined P (at .candidate) _ place column (pushed .0)) in
     taken P (at .state) (at .x) (at .candidate) _ _ _ cost (c .before .before .before .before .before .better .ensures) (c .before .before .before .before .if2 .taken) _ next (c .accepted .ensures)
 
 rejected-requires-2 : tie.Need-rejected-requires-2
@@ -54,8 +54,9 @@ returns-3 c =
     let at = c .before .before .before .before .before .before .before .before .before .before .args in
     let P = chosen (at .k) (now (at .sites)) (now (at .z)) (now (at .l)) (at .altitude) in
     let column = c .before .before .before .before .before .before .before .residuals .ensures .0 .1 in
+    let place = c .before .before .before .before .before .place .ensures in
     let pushed = c .before .before .before .push-height .ensures in
-    let cost = cost-joined P (at .candidate) _ (c .before .before .before .before .before .place .ensures) column (pushed .0) _ (pushed .1) in
+    let cost = cost-joined P (at .candidate) _ place column (pushed .0) _ (pushed .1) in
     left P (at .state) (at .x) (at .candidate) _ _ _ cost (c .before .before .better .ensures) (c .before .if2 .left) (c .rejected2 .ensures)
 
 pub tried-spec : {M : Type 1} → statement M

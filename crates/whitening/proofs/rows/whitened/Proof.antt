@@ -16,7 +16,9 @@ push-height-requires : tie.Need-push-height-requires
 push-height-requires c κs = search needs
 
 slopes-requires : tie.Need-slopes-requires
-slopes-requires c κs = let e = c .before .before .before .before .before .before .before .before .before .before .before .pre .1 in (c .before .before .before .before .before .before .before .before .before .before .before .pre .0, (c .before .before .before .before .before .before .before .before .residuals .ensures .1 .0, (c .before .before .before .before .before .before .before .place .ensures, (e .1, e .2, e .3, e .4))))
+slopes-requires c κs =
+    let pre = c .before .before .before .before .before .before .before .before .before .before .before .pre in
+    (pre .0, (c .before .before .before .before .before .before .before .before .residuals .ensures .1 .0, (c .before .before .before .before .before .before .before .place .ensures, (pre .1 .1, pre .1 .2, pre .1 .3, pre .1 .4))))
 
 returns : tie.Need-returns
 returns c =

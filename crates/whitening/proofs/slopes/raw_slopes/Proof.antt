@@ -1,4 +1,4 @@
--- `whitening::slopes::raw_slopes` meets its contract. The invariant: each array is filled below i. The measure is what is left of k. Assumes nothing.
+-- `whitening::slopes::raw_slopes` meets its contract. The invariant: each array is filled below i. The range of a turn is the one lent (`fill-at`). The measure is what is left of k. Assumes nothing.
 use borrow.Author.Needs.{needs}
 use mathlib.Core.Path.{_≡_, refl, ap, _∙_}
 use mathlib.Core.List.{List}

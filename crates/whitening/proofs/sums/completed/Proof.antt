@@ -6,7 +6,7 @@ use Rattle.whitening.proofs.sums.completed.Statement.{statement}
 use Rattle.whitening.proofs.sums.completed.Tie as tie
 
 slopes-requires : tie.Need-slopes-requires
-slopes-requires c κs = (c .before .before .before .before .pre .0, (c .before .before .before .before .pre .1 .0, (c .before .before .before .before .pre .1 .1, (refl, refl, refl, refl))))
+slopes-requires c κs = let pre = c .before .before .before .before .pre in (pre .0, (pre .1 .0, (pre .1 .1, (refl, refl, refl, refl))))
 
 normal-requires : tie.Need-normal-requires
 normal-requires c κs = search needs

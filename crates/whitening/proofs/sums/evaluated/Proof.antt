@@ -1,4 +1,4 @@
--- `whitening::sums::evaluated` meets its contract. The residuals first, and then the rest. Assumes nothing.
+-- `whitening::sums::evaluated` meets its contract. The residuals are those of all rows (`residuals-joined`), so what `completed` makes of them is the whole (`completes`). Assumes nothing.
 use borrow.Author.Needs.{needs}
 use denote.Ref.{now}
 use Rattle.whitening.specs.Whitened.{chosen}
