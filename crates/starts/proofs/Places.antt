@@ -3,72 +3,27 @@ use mathlib.Core.Path.{_≡_, refl, ap, _∙_}
 use mathlib.Core.List.{List, [], _∷_}
 use Prim.Native.Nat.{ℕ, zero, suc, _+_, _*_, _≤_, _<_}
 use native.Mathlib.Omega.{arith}
-use lib.ListN.{length, getD, set, length-set}
-use lib.Seq.{getD-set-same, getD-set-other}
-use lib.Ieee.{Float, nan}
+use lib.ListN.{length, getD, length-set}
+use lib.Ieee.{Float}
 use borrow.Author.Tests.{lt-ltb}
 use Rattle.dense.specs.Entries.{nth}
 use Rattle.problem.specs.Problem.{four}
 use Rattle.starts.specs.declared.Points.{Points}
 use Rattle.starts.specs.Points.{empty, stored, push, packed, point}
-
--- four stores behind each other: what is read elsewhere, and where they are
-module _ (a : List Float) (i : ℕ) (w x y z : Float) where
-  abbrev one : List Float
-  one = set a i w
-
-  abbrev two : List Float
-  two = set one (i + 1) x
-
-  abbrev three : List Float
-  three = set two (i + 2) y
-
-  abbrev all : List Float
-  all = set three (i + 3) z
-
-  all-length : length all ≡ length a
-  all-length = simp length-set
-
-  far : (j : ℕ) → (j ≡ i → ⊥) → (j ≡ i + 1 → ⊥) → (j ≡ i + 2 → ⊥) → (j ≡ i + 3 → ⊥) → nth all j ≡ nth a j
-  far j p q r s =
-      getD-set-other three (i + 3) j z nan s ∙ getD-set-other two (i + 2) j y nan r ∙ getD-set-other one (i + 1) j x nan q ∙ getD-set-other a i j w nan p
-
-  module _ (h : i + 3 < length a) where
-    at0 : nth all i ≡ w
-    at0 =
-        getD-set-other three (i + 3) i z nan (λ e. omega arith) ∙ getD-set-other two (i + 2) i y nan (λ e. omega arith)
-        ∙ getD-set-other one (i + 1) i x nan (λ e. omega arith) ∙ getD-set-same a i w nan (omega arith)
-
-    at1 : nth all (i + 1) ≡ x
-    at1 =
-        getD-set-other three (i + 3) (i + 1) z nan (λ e. omega arith) ∙ getD-set-other two (i + 2) (i + 1) y nan (λ e. omega arith)
-        ∙ getD-set-same one (i + 1) x nan (simp length-set (omega arith))
-
-    at2 : nth all (i + 2) ≡ y
-    at2 = getD-set-other three (i + 3) (i + 2) z nan (λ e. omega arith) ∙ getD-set-same two (i + 2) y nan (simp length-set (omega arith))
-
-    at3 : nth all (i + 3) ≡ z
-    at3 = getD-set-same three (i + 3) z nan (simp length-set (omega arith))
+use Rattle.starts.proofs.Stores.{four-kept, four-read}
 
 module _ (a : List Float) (k : ℕ) (p : List Float) where
+  stored-length : length (stored a k p) ≡ length a
+  stored-length = simp length-set
+
   -- the start at k once it is stored, and one before it
   here : k < 18 → length a ≡ 72 → point (stored a k p) k ≡ four (nth p)
   unfolding point
-  here h l =
-      let room : 4 * k + 3 < length a = omega arith in
-      rw (
-        at0 a (4 * k) (nth p 0) (nth p 1) (nth p 2) (nth p 3) room,
-        at1 a (4 * k) (nth p 0) (nth p 1) (nth p 2) (nth p 3) room,
-        at2 a (4 * k) (nth p 0) (nth p 1) (nth p 2) (nth p 3) room,
-        at3 a (4 * k) (nth p 0) (nth p 1) (nth p 2) (nth p 3) room,
-      )
-
-  entry : (j : ℕ) → j < 4 * k → nth (stored a k p) j ≡ nth a j
-  entry j h = far a (4 * k) (nth p 0) (nth p 1) (nth p 2) (nth p 3) j (λ e. omega arith) (λ e. omega arith) (λ e. omega arith) (λ e. omega arith)
+  here h l = four-read a (4 * k) (nth p 0) (nth p 1) (nth p 2) (nth p 3) (omega arith)
 
   elsewhere : (j : ℕ) → j < k → point (stored a k p) j ≡ point a j
   unfolding point
-  elsewhere j h = rw (entry (4 * j) (omega arith), entry (4 * j + 1) (omega arith), entry (4 * j + 2) (omega arith), entry (4 * j + 3) (omega arith))
+  elsewhere j h = four-kept a (4 * k) (nth p 0) (nth p 1) (nth p 2) (nth p 3) (4 * j) (omega arith)
 
 abbrev next : Points → List Float → Points
 next s p = record { n = s .n + 1; at = stored (s .at) (s .n) p }
@@ -95,7 +50,7 @@ behind s (p ∷ ps) zero l m h =
 behind s (p ∷ ps) (suc k) l m h =
     let e : s .n + suc k ≡ s .n + 1 + k = omega arith in
     ap (λ (q : Points). point (packed q ps .at) (s .n + suc k)) (pushed s p (omega arith))
-    ∙ rw e (behind (next s p) ps k (all-length (s .at) (4 * s .n) (nth p 0) (nth p 1) (nth p 2) (nth p 3) ∙ l) (omega arith) (omega arith))
+    ∙ rw e (behind (next s p) ps k (stored-length (s .at) (s .n) p ∙ l) (omega arith) (omega arith))
 
 counted : (s : Points) (ps : List (List Float)) → s .n + length ps ≤ 18 → packed s ps .n ≡ s .n + length ps
 unfolding packed
