@@ -1,6 +1,14 @@
 -- `best::plausible` meets its contract. A height within the limits leaves the ranges, and any other none. Assumes nothing.
 use borrow.Author.Needs.{needs}
-use Rattle.best.specs.Plausible.{plausible}
+use mathlib.Core.Path.{_≡_, _∙_}
+use mathlib.Core.Bool.{Bool, _&&_}
+use mathlib.Core.List.{List}
+use Prim.Native.Nat.{ℕ}
+use lib.Ieee.{Float, le}
+use Rattle.geo.specs.Geo.{fromEcef}
+use Rattle.geo.specs.declared.Geodetic.{Geodetic}
+use Rattle.problem.specs.Problem.{position}
+use Rattle.best.specs.Plausible.{minHeightM, maxHeightM, nearTo, plausible}
 use Rattle.best.proofs.plausible.Statement.{statement}
 use Rattle.best.proofs.plausible.Tie as tie
 
@@ -22,13 +30,17 @@ flying-requires c κs = search needs
 all-near-requires : tie.Need-all-near-requires
 all-near-requires c κs = search needs
 
-returns : tie.Need-returns
+-- by the height's test and that of the ranges
+by-parts : (sites p : List Float) (k : ℕ) {x : Geodetic} {flies r : Bool} → x ≡ fromEcef (position p) → flies ≡ (le minHeightM (x .«height_m») && le (x .«height_m») maxHeightM)
+    → r ≡ (flies && nearTo sites (position p) k) → r ≡ plausible sites k p
 unfolding plausible
-returns c = rw (← c .before .before .before .from-ecef .ensures, ← c .before .before .flying .ensures, c .before .if1 .taken, ← c .all-near .ensures)
+by-parts sites p k x f r = r ∙ rw (f, x)
+
+returns : tie.Need-returns
+returns c = by-parts _ _ _ (c .before .before .before .from-ecef .ensures) (c .before .before .flying .ensures) (rw (c .before .if1 .taken) (c .all-near .ensures))
 
 returns-2 : tie.Need-returns-2
-unfolding plausible
-returns-2 c = rw (← c .before .before .from-ecef .ensures, ← c .before .flying .ensures, c .if1 .left)
+returns-2 c = by-parts _ _ _ (c .before .before .from-ecef .ensures) (c .before .flying .ensures) (rw (c .if1 .left))
 
 pub plausible-spec : {M : Type 1} → statement M
 plausible-spec =

@@ -1,13 +1,15 @@
 -- `best::replaces` meets its contract. By its three tests. Assumes nothing.
+use mathlib.Core.Path.{sym, ap}
+use mathlib.Core.Bool.{not}
 use borrow.Author.Tests.{le-leb, lt-leb}
 use Rattle.best.proofs.replaces.Statement.{statement}
 use Rattle.best.proofs.replaces.Tie as tie
 
 returns : tie.Need-returns
-returns c = rw (lt-leb _ _ (c .before .if2 .taken), c .before .before .if1 .taken, c .if3 .taken)
+returns c = rw (lt-leb _ _ (c .before .if2 .taken), c .before .before .if1 .taken) (ap not (sym (c .if3 .taken)))
 
 returns-2 : tie.Need-returns-2
-returns-2 c = rw (lt-leb _ _ (c .before .if2 .taken), c .before .before .if1 .taken, c .if3 .left)
+returns-2 c = rw (lt-leb _ _ (c .before .if2 .taken), c .before .before .if1 .taken) (ap not (sym (c .if3 .left)))
 
 returns-3 : tie.Need-returns-3
 returns-3 c = rw (le-leb _ _ (c .if2 .left), c .before .if1 .taken)

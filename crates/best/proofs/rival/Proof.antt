@@ -1,11 +1,17 @@
 -- `best::rival` meets its contract. A costlier fit is none, and of the others the distance decides. Assumes nothing.
 use borrow.Author.Needs.{needs}
+use mathlib.Core.Path.{sym, ap}
+use mathlib.Core.Bool.{Bool, not, _&&_}
+use lib.Ieee.{lt}
+use Rattle.best.specs.Best.{distance}
 use Rattle.best.proofs.Constants.{nine}
 use Rattle.best.proofs.rival.Statement.{statement}
 use Rattle.best.proofs.rival.Tie as tie
 
 returns : tie.Need-returns
-returns c = rw (nine, c .if1 .taken)
+returns c =
+    let a = c .before .before .before .args in
+    rw nine (ap (λ (b : Bool). not b && lt (a .limit) (distance (a .best) (a .other))) (sym (c .if1 .taken)))
 
 distance-requires : tie.Need-distance-requires
 distance-requires c κs = search needs

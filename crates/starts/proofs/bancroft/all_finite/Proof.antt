@@ -1,5 +1,9 @@
 -- `starts::bancroft::all_finite` meets its contract: each return is one outcome of the four tests, in the order of the definition. Assumes nothing.
 use borrow.Author.Needs.{needs}
+use mathlib.Core.Path.{_≡_}
+use mathlib.Core.Bool.{_&&_}
+use Rattle.binary64.specs.Steps.{isFinite}
+use Rattle.dense.specs.Entries.{nth}
 use Rattle.starts.specs.Bancroft.{allFinite}
 use Rattle.starts.proofs.bancroft.all_finite.Statement.{statement}
 use Rattle.starts.proofs.bancroft.all_finite.Tie as tie
@@ -28,36 +32,19 @@ array-read-is-finite-4 c = search needs
 is-finite-requires-4 : tie.Need-is-finite-requires-4
 is-finite-requires-4 c κs = search needs
 
-returns : tie.Need-returns
+-- the first two passed, and the third was tested
+third : (c : tie.After-is-finite3) → allFinite (c .before .before .before .before .before .args .t1) ≡ c .is-finite3 .result && isFinite (nth (c .before .before .before .before .before .args .t1) 3)
 unfolding allFinite
-returns c =
-    let third = c .before .before in
-    let second = third .before .before in
+third c =
+    let second = c .before .before in
     let first = second .before .before in
-    rw (
-      ← first .is-finite .ensures,
-      second .before .if1 .taken,
-      ← second .is-finite2 .ensures,
-      third .before .if2 .taken,
-      ← third .is-finite3 .ensures,
-      c .before .if3 .taken,
-      ← c .is-finite4 .ensures,
-    )
+    rw (← first .is-finite .ensures, second .before .if1 .taken, ← second .is-finite2 .ensures, c .before .if2 .taken, ← c .is-finite3 .ensures)
+
+returns : tie.Need-returns
+returns c = rw (third (c .before .before), c .before .if3 .taken, c .is-finite4 .ensures)
 
 returns-2 : tie.Need-returns-2
-unfolding allFinite
-returns-2 c =
-    let third = c .before in
-    let second = third .before .before in
-    let first = second .before .before in
-    rw (
-      ← first .is-finite .ensures,
-      second .before .if1 .taken,
-      ← second .is-finite2 .ensures,
-      third .before .if2 .taken,
-      ← third .is-finite3 .ensures,
-      c .if3 .left,
-    )
+returns-2 c = rw (third (c .before), c .if3 .left)
 
 returns-3 : tie.Need-returns-3
 unfolding allFinite
