@@ -20,7 +20,7 @@ use Rattle.starts.specs.Lifted.{centroid, timed, lifted, ringPlace, circ
 use Rattle.starts.specs.Bancroft.{lorentz, productsTo, rhsTo, lambdas, allFinite, placeAt, places, crossed, pseudo, factored, bancroft}
 use Rattle.starts.specs.Starts.{startHeight, starts, startsAfter}
 use Rattle.starts.proofs.Places.{packed-at}
-use Rattle.starts.proofs.Count.{starts-most}
+use Rattle.starts.proofs.Count.{either, starts-most}
 
 abbrev Four : List Float → Type 0
 Four p = four (nth p) ≡ p
@@ -39,10 +39,6 @@ appended : (a b : List (List Float)) → Fours a → Fours b → Fours (a ++ b)
 appended [] b f g = g
 appended (p ∷ a) b f g = one-more p (a ++ b) (f 0 (omega arith)) (appended a b (λ i h. f (suc i) (omega arith)) g)
 
-either : (t : Bool) (a b : List (List Float)) → Fours a → Fours b → Fours (cond t a b)
-either true a b f g = f
-either false a b f g = g
-
 lifted-four : (sites z : List Float) (k : ℕ) (ground : Geodetic) (height : Float) → Four (lifted sites z k ground height)
 unfolding lifted timed
 lifted-four sites z k ground height = refl
@@ -57,7 +53,7 @@ module _ (u v centroid : List Float) where
   places-four [] = no-four
   places-four (l ∷ ls) =
       let p : List Float = placeAt u v centroid l in
-      appended (cond (allFinite p) (p ∷ []) []) (places u v centroid ls) (either (allFinite p) (p ∷ []) [] (one-more p [] (place-four l) no-four) no-four) (places-four ls)
+      appended (cond (allFinite p) (p ∷ []) []) (places u v centroid ls) (either Fours (allFinite p) (p ∷ []) [] (one-more p [] (place-four l) no-four) no-four) (places-four ls)
 
   crossed-four : Fours (crossed u v centroid)
   unfolding crossed
@@ -98,7 +94,7 @@ module _ (sites z : List Float) (k : ℕ) where
         let roots : List (List Float) = bancroft sites z k middle in
         let about : List (List Float) = ring sites z k height middle (enuBasis (ground .«lat_deg») (ground .«lon_deg»)) in
         let lone : Four above = lifted-four sites z k ground height in
-        either (leb 4 k) (roots ++ (above ∷ [])) (above ∷ about)
+        either Fours (leb 4 k) (roots ++ (above ∷ [])) (above ∷ about)
         (appended roots (above ∷ []) (bancroft-four middle) (one-more above [] lone no-four))
         (one-more above about lone (ring-four height middle (enuBasis (ground .«lat_deg») (ground .«lon_deg»))))
 
@@ -107,7 +103,7 @@ module _ (sites z : List Float) (k : ℕ) where
       unfolding startsAfter
       after-four =
           appended (cond had (four (nth previous) ∷ []) []) (starts sites z k altitude)
-          (either had (four (nth previous) ∷ []) [] (one-more (four (nth previous)) [] refl no-four) no-four) starts-four
+          (either Fours had (four (nth previous) ∷ []) [] (one-more (four (nth previous)) [] refl no-four) no-four) starts-four
 
       -- what `starts` ensures, as its callers use it: the i-th start
       pub starts-at : (r : Points) → r ≡ packed empty (startsAfter had previous sites z k altitude) → (i : ℕ) → i < length (startsAfter had previous sites z k altitude)

@@ -20,20 +20,23 @@ use Rattle.starts.specs.Bancroft.{lorentz, productsTo, rhsTo, lambdas, a
 use Rattle.starts.specs.Starts.{startHeight, starts, startsAfter}
 use Rattle.starts.proofs.Places.{packed-count}
 
--- a list on either side of a test
-either-most : {A : Type 0} (n : ℕ) (t : Bool) (a b : List A) → length a ≤ n → length b ≤ n → length (cond t a b) ≤ n
-either-most n true a b p q = p
-either-most n false a b p q = q
+-- what holds on either side of a test
+pub either : {A : Type 0} (P : A → Type 0) (t : Bool) (a b : A) → P a → P b → P (cond t a b)
+either P true a b p q = p
+either P false a b p q = q
+
+abbrev Most : {A : Type 0} → ℕ → List A → Type 0
+Most n l = length l ≤ n
 
 kept-most : (p : List Float) → length (cond (allFinite p) (p ∷ []) []) ≤ 1
-kept-most p = either-most 1 (allFinite p) (p ∷ []) [] (omega arith) (omega arith)
+kept-most p = either (Most 1) (allFinite p) (p ∷ []) [] (omega arith) (omega arith)
 
 lambdas-most : (a b c : Float) → length (lambdas a b c) ≤ 2
 unfolding lambdas
 lambdas-most a b c =
-    either-most 2 (lt (abs a) (decimal 1 30)) _ _
-    (either-most 2 (lt (decimal 1 30) (abs b)) _ _ (omega arith) (omega arith))
-    (either-most 2 (le nought (b ⊗ b ⊖ decimal 4 0 ⊗ a ⊗ c)) _ _ (omega arith) (omega arith))
+    either (Most 2) (lt (abs a) (decimal 1 30)) _ _
+    (either (Most 2) (lt (decimal 1 30) (abs b)) _ _ (omega arith) (omega arith))
+    (either (Most 2) (le nought (b ⊗ b ⊖ decimal 4 0 ⊗ a ⊗ c)) _ _ (omega arith) (omega arith))
 
 module _ (u v centroid : List Float) where
   places-most : (ls : List Float) → length (places u v centroid ls) ≤ length ls
@@ -86,10 +89,6 @@ module _ (sites z : List Float) (k : ℕ) (height : Float) (centroid : List Floa
 abbrev Between : List (List Float) → Type 0
 Between ps = (1 ≤ length ps) × (length ps ≤ 17)
 
-either-between : (t : Bool) (a b : List (List Float)) → Between a → Between b → Between (cond t a b)
-either-between true a b p q = p
-either-between false a b p q = q
-
 module _ (sites z : List Float) (k : ℕ) (altitude : Altitude) where
   starts-between : Between (starts sites z k altitude)
   unfolding starts
@@ -102,7 +101,7 @@ module _ (sites z : List Float) (k : ℕ) (altitude : Altitude) where
       let e : length (roots ++ (above ∷ [])) ≡ length roots + 1 = length-append roots (above ∷ []) in
       let most : length roots ≤ 2 = bancroft-most sites z k middle in
       let sixteen : length (ring sites z k height middle basis) ≡ 16 = ring-count sites z k height middle basis in
-      either-between (leb 4 k) (roots ++ (above ∷ [])) (above ∷ ring sites z k height middle basis) (omega arith, omega arith) (omega arith, omega arith)
+      either Between (leb 4 k) (roots ++ (above ∷ [])) (above ∷ ring sites z k height middle basis) (omega arith, omega arith) (omega arith, omega arith)
 
   module _ (had : Bool) (previous : List Float) where
     after-count : length (startsAfter had previous sites z k altitude) ≡ length (cond had (four (nth previous) ∷ []) []) + length (starts sites z k altitude)
@@ -110,7 +109,7 @@ module _ (sites z : List Float) (k : ℕ) (altitude : Altitude) where
     after-count = length-append (cond had (four (nth previous) ∷ []) []) (starts sites z k altitude)
 
     before-most : length (cond had (four (nth previous) ∷ []) []) ≤ 1
-    before-most = either-most 1 had (four (nth previous) ∷ []) [] (omega arith) (omega arith)
+    before-most = either (Most 1) had (four (nth previous) ∷ []) [] (omega arith) (omega arith)
 
     pub starts-least : 1 ≤ length (startsAfter had previous sites z k altitude)
     starts-least = omega (arith, after-count, starts-between)

@@ -18,11 +18,9 @@ module _ (a : List Float) (k : ℕ) (p : List Float) where
 
   -- the start at k once it is stored, and one before it
   here : k < 18 → length a ≡ 72 → point (stored a k p) k ≡ four (nth p)
-  unfolding point
   here h l = four-read a (4 * k) (nth p 0) (nth p 1) (nth p 2) (nth p 3) (omega arith)
 
   elsewhere : (j : ℕ) → j < k → point (stored a k p) j ≡ point a j
-  unfolding point
   elsewhere j h = four-kept a (4 * k) (nth p 0) (nth p 1) (nth p 2) (nth p 3) (4 * j) (omega arith)
 
 abbrev next : Points → List Float → Points

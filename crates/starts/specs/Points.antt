@@ -27,5 +27,5 @@ packed points [] = points
 packed points (params ∷ rest) = packed (push points params) rest
 
 -- the start at place k: of what `packed empty` makes, the k-th of the list (`packed-at` in proofs/Places.antt)
-unfoldable pub point : List Float → ℕ → List Float
+abbrev pub point : List Float → ℕ → List Float
 point at k = nth at (4 * k) ∷ nth at (4 * k + 1) ∷ nth at (4 * k + 2) ∷ nth at (4 * k + 3) ∷ []

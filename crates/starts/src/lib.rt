@@ -26,6 +26,7 @@ pub struct Points {
     pub at: [f64; 72],
 }
 
+// One start more, if there is room.
 fn push(points: Points, params: [f64; 4]) -> Points
     ensures { λ r. ⌜ r ≡ push points params ⌝ }
 {

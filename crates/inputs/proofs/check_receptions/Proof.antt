@@ -1,4 +1,4 @@
--- `inputs::check_receptions` meets its contract: each turn adds the next reception's check (`first-next`). Assumes nothing.
+-- `inputs::check_receptions` meets its contract: each turn adds the next reception's check (`check-next`). Assumes nothing.
 use borrow.Author.Needs.{needs}
 use mathlib.Core.Path.{_≡_, refl}
 use Prim.Native.Nat.{_-_, _≤_}
@@ -74,7 +74,16 @@ loop-less c = omega arith
 
 loop-again : tie.Need-loop-again Inv-loop μ-loop
 unfolding receptionIn
-loop-again c = (omega arith, check-next (c .before .before .before .before .before .before .before .before .before .before .before .before .before .before .before .args .t1) (c .before .before .before .before .before .before .before .before .before .before .before .before .before .before .loop .i) (c .before .before .before .before .before .before .before .before .before .before .before .before .before .before .loop .inv .1) (rw (toZ-ofZ w64 (getD (c .before .before .before .before .before .before .before .before .before .before .before .before .before .before .before .args .t1 .time) (c .before .before .before .before .before .before .before .before .before .before .before .before .before .before .loop .i) (pos 0)) (record { sfits = c .before .before .before .before .before .before .before .before .t18 .given }), c .before .before .before .before .before .before .before .before .before .before .site-in .ensures)) (c .before .before .ascends .ensures) (c .before .check-reception .ensures) (c .or-else .ensures))
+loop-again c =
+    let timed = c .before .before .before .before .before .before .before .before in
+    let placed = timed .before .before in
+    let turn = placed .before .before .before .before in
+    let f = turn .before .args .t1 in (
+      omega arith,
+      check-next f (turn .loop .i) (turn .loop .inv .1)
+          (rw (toZ-ofZ w64 (getD (f .time) (turn .loop .i) (pos 0)) (record { sfits = timed .t18 .given }), placed .site-in .ensures))
+          (c .before .before .ascends .ensures) (c .before .check-reception .ensures) (c .or-else .ensures),
+    )
 
 returns : tie.Need-returns Inv-loop μ-loop
 returns c = let e : c .before .loop .i ≡ c .before .before .args .n = omega arith in rw e at (c .before .loop .inv .1)

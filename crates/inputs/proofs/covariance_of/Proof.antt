@@ -38,10 +38,16 @@ loop-less : tie.Need-loop-less Inv-loop μ-loop
 loop-less c = omega arith
 
 loop-again : tie.Need-loop-again Inv-loop μ-loop
-loop-again c = (omega arith, rw (c .before .before .loop .inv .1, c .upper-at .ensures) (fill-next (floats 1024) (upperAt (c .before .before .before .before .args .clock .now) (c .before .before .before .before .args .n)) (c .before .before .loop .k)))
+loop-again c =
+    let turn = c .before .before in
+    let a = turn .before .before .args in
+    (omega arith, rw (turn .loop .inv .1, c .upper-at .ensures) (fill-next (floats 1024) (upperAt (a .clock .now) (a .n)) (turn .loop .k)))
 
 returns : tie.Need-returns Inv-loop μ-loop
-returns c = let e : c .before .loop .k ≡ c .before .before .before .args .n * c .before .before .before .args .n = omega arith in rw e at (c .before .loop .inv .1)
+returns c =
+    let n = c .before .before .before .args .n in
+    let e : c .before .loop .k ≡ n * n = omega arith in
+    rw e at (c .before .loop .inv .1)
 
 pub covariance-of-spec : {M : Type 1} → statement M
 covariance-of-spec =

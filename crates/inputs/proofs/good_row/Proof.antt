@@ -33,7 +33,14 @@ loop-less : tie.Need-loop-less Inv-loop μ-loop
 loop-less c = omega arith
 
 loop-again : tie.Need-loop-again Inv-loop μ-loop
-loop-again c = (omega arith, omega arith, c .both .ensures ∙ rw (c .before .before .before .before .loop .inv .2, c .before .good-entry .ensures, c .before .before .entry-at .ensures) (row-next (c .before .before .before .before .before .before .args .clock .now) (c .before .before .before .before .before .before .args .n) (c .before .before .before .before .before .before .args .i) (c .before .before .before .before .loop .j) (c .before .before .before .before .loop .inv .0)))
+loop-again c =
+    let turn = c .before .before .before .before in
+    let a = turn .before .before .args in (
+      omega arith,
+      omega arith,
+      c .both .ensures
+          ∙ rw (turn .loop .inv .2, c .before .good-entry .ensures, c .before .before .entry-at .ensures) (row-next (a .clock .now) (a .n) (a .i) (turn .loop .j) (turn .loop .inv .0)),
+    )
 
 returns : tie.Need-returns Inv-loop μ-loop
 returns c = let e : c .before .loop .j ≡ c .before .before .before .args .n = omega arith in rw e at (c .before .loop .inv .2)

@@ -12,7 +12,10 @@ metres-of-requires : tie.Need-metres-of-requires
 metres-of-requires c κs = few _ (c .before .before .before .pre .1)
 
 covariance-of-requires : tie.Need-covariance-of-requires
-covariance-of-requires c κs = (few _ (c .before .before .before .before .pre .1), clock-whole (c .before .before .before .before .args .n) (receptionIn (c .before .before .before .before .args .f)) (c .before .before .before .before .args .g) (c .before .before .before .before .args .clock .now) (c .before .before .before .before .args .altitude .now) (c .before .before .before .before .args .reference .now) (c .before .before .before .before .pre .1) .1)
+covariance-of-requires c κs =
+    let start = c .before .before .before .before in
+    let a = start .args in
+    (few _ (start .pre .1), clock-whole (a .n) (receptionIn (a .f)) (a .g) (a .clock .now) (a .altitude .now) (a .reference .now) (start .pre .1) .1)
 
 altitude-of-requires : tie.Need-altitude-of-requires
 altitude-of-requires c κs = whole-altitude _ (c .before .before .before .before .before .pre .1)
@@ -22,8 +25,15 @@ reference-of-requires c κs = whole-reference _ (c .before .before .before .befo
 
 returns : tie.Need-returns
 returns c =
-    is-problem (c .before .before .before .before .before .before .before .before .before .before .before .args .f) (c .before .before .before .before .before .before .before .before .before .before .before .args .n) (c .before .before .before .before .before .before .before .before .before .before .before .args .g) (c .before .before .before .before .before .before .before .before .before .before .before .args .clock .now) (c .before .before .before .before .before .before .before .before .before .before .before .args .altitude .now) (c .before .before .before .before .before .before .before .before .before .before .before .args .reference .now) (c .before .before .before .before .before .before .before .before .before .before .before .pre) (c .before .before .before .before .before .before .before .metres-of .ensures) (c .before .before .before .before .before .before .covariance-of .ensures) (c .before .before .before .before .before .altitude-of .ensures)
-    (toZ-ofZ w64 (c .before .before .before .before .reference-of .result) (record { sfits = c .before .before .before .before .reference-of .ok }) ∙ c .before .before .before .before .reference-of .ensures)
+    let reference = c .before .before .before .before in
+    let altitude = reference .before in
+    let covariance = altitude .before in
+    let metres = covariance .before in
+    let start = metres .before .before .before .before in
+    let a = start .args in
+    is-problem (a .f) (a .n) (a .g) (a .clock .now) (a .altitude .now) (a .reference .now) (start .pre)
+    (metres .metres-of .ensures) (covariance .covariance-of .ensures) (altitude .altitude-of .ensures)
+    (toZ-ofZ w64 (reference .reference-of .result) (record { sfits = reference .reference-of .ok }) ∙ reference .reference-of .ensures)
 
 pub problem-of-spec : {M : Type 1} → statement M
 problem-of-spec =

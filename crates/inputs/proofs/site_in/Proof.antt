@@ -1,4 +1,4 @@
--- `inputs::site_in` meets its contract: the places lie in the array. Assumes nothing.
+-- `inputs::site_in` meets its contract: the three reads are those of the definition, and i64s come back from their bits (`toZ-ofZ`). Assumes nothing.
 use borrow.Author.Needs.{needs}
 use lib.ListN.{getD}
 use lib.IntN.{pos}
@@ -37,10 +37,12 @@ element-copy-out-t17 c = search needs
 
 returns : tie.Need-returns
 returns c =
+    let mm = c .before .before .before .args .mm .now in
+    let i = c .before .before .before .args .i in
     rw (
-      toZ-ofZ w64 (getD (c .before .before .before .args .mm .now) (3 * c .before .before .before .args .i) (pos 0)) (record { sfits = c .before .before .t7 .given }),
-      toZ-ofZ w64 (getD (c .before .before .before .args .mm .now) (3 * c .before .before .before .args .i + 1) (pos 0)) (record { sfits = c .before .t12 .given }),
-      toZ-ofZ w64 (getD (c .before .before .before .args .mm .now) (3 * c .before .before .before .args .i + 2) (pos 0)) (record { sfits = c .t17 .given }),
+      toZ-ofZ w64 (getD mm (3 * i) (pos 0)) (record { sfits = c .before .before .t7 .given }),
+      toZ-ofZ w64 (getD mm (3 * i + 1) (pos 0)) (record { sfits = c .before .t12 .given }),
+      toZ-ofZ w64 (getD mm (3 * i + 2) (pos 0)) (record { sfits = c .t17 .given }),
     )
 
 pub site-in-spec : {M : Type 1} → statement M

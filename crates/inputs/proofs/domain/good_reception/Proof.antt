@@ -35,16 +35,19 @@ both-requires-4 c κs = search needs
 returns : tie.Need-returns
 unfolding goodReception goodZ goodNoise
 returns c =
+    let measured = c .before .before .before .before in
+    let placed = measured .before .before .before in
+    let timed = placed .before .before in
     c .both4 .ensures
     ∙ rw (
       c .before .both3 .ensures,
       c .before .before .both2 .ensures,
-      c .before .before .before .before .both .ensures,
-      c .before .before .before .before .before .within2 .ensures,
-      c .before .before .before .before .before .before .within .ensures,
-      c .before .before .before .before .before .before .before .good-site .ensures,
-      c .before .before .before .before .before .before .before .before .before .between .ensures,
-      toZ-ofZ w64 (c .before .before .before .before .before .before .before .before .before .before .before .args .r .time) (record { sfits = c .before .before .before .before .before .before .before .before .before .before .struct-told .given .1 .0 .1 }),
+      measured .both .ensures,
+      measured .before .within2 .ensures,
+      measured .before .before .within .ensures,
+      placed .good-site .ensures,
+      timed .between .ensures,
+      toZ-ofZ w64 (timed .before .before .args .r .time) (record { sfits = timed .before .struct-told .given .1 .0 .1 }),
       far,
       micro,
       tera,

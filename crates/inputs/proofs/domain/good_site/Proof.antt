@@ -34,16 +34,19 @@ both-requires-2 c κs = search needs
 
 returns : tie.Need-returns
 returns c =
-    let site = c .before .before .before .before .before .before .before .before .args .t1 in
+    let third = c .before .before in
+    let second = third .before .before in
+    let first = second .before .before in
+    let site = first .before .before .args .t1 in
     c .both2 .ensures
     ∙ rw (
       c .before .both .ensures,
-      c .before .before .before .before .before .before .good-coordinate .ensures,
-      c .before .before .before .before .good-coordinate2 .ensures,
-      c .before .before .good-coordinate3 .ensures,
-      toZ-ofZ w64 (getD site 0 (pos 0)) (record { sfits = c .before .before .before .before .before .before .before .good-coordinate-arg .given }),
-      toZ-ofZ w64 (getD site 1 (pos 0)) (record { sfits = c .before .before .before .before .before .good-coordinate-arg2 .given }),
-      toZ-ofZ w64 (getD site 2 (pos 0)) (record { sfits = c .before .before .before .good-coordinate-arg3 .given }),
+      first .good-coordinate .ensures,
+      second .good-coordinate2 .ensures,
+      third .good-coordinate3 .ensures,
+      toZ-ofZ w64 (getD site 0 (pos 0)) (record { sfits = first .before .good-coordinate-arg .given }),
+      toZ-ofZ w64 (getD site 1 (pos 0)) (record { sfits = second .before .good-coordinate-arg2 .given }),
+      toZ-ofZ w64 (getD site 2 (pos 0)) (record { sfits = third .before .good-coordinate-arg3 .given }),
     )
 
 pub good-site-spec : {M : Type 1} → statement M
