@@ -7,7 +7,8 @@ ghost use mir.Syntax.{w64};
 ghost use mir.Val.{ofZ};
 ghost use Rattle.words.specs.Words.{wordAt, u64At, i64At, f64At, putU16, putU32, putU64, putI64, putF64};
 
-// The numbers below a word of 16, 32 and 64 bits, and below the sign of an i64.
+// How many numbers two bytes hold, and four; the greatest that eight hold; the least of those whose
+// sign bit is set.
 const TWO_BYTES: u64 = 0x1_0000;
 
 const FOUR_BYTES: u64 = 0x1_0000_0000;

@@ -17,7 +17,9 @@ same-length c = search needs
 
 returns : tie.Need-returns
 unfolding putI64
-returns c = rw (c .before .before .put-u64 .ensures, c .before .before .before .bits .ensures, toZ-ofZ w64 (c .before .before .before .before .before .before .args .x) (c .before .before .before .before .before .before .fits .x))
+returns c =
+    let start = c .before .before .before .before .before .before in
+    rw (c .before .before .put-u64 .ensures, c .before .before .before .bits .ensures, toZ-ofZ w64 (start .args .x) (start .fits .x))
 
 pub put-i64-spec : {M : Type 1} → statement M
 put-i64-spec =

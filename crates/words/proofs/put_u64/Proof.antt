@@ -26,7 +26,9 @@ same-length c = search needs
 
 returns : tie.Need-returns
 unfolding putU64 putU32
-returns c = c .before .before .put-u322 .ensures ∙ rw (c .before .before .before .before .before .before .put-u32 .ensures) (sym (write-parts 4 4 (c .before .before .before .before .before .before .before .before .before .args .s .now) (c .before .before .before .before .before .before .before .before .before .args .k) (c .before .before .before .before .before .before .before .before .before .args .x)))
+returns c =
+    let a = c .before .before .before .before .before .before .before .before .before .args in
+    c .before .before .put-u322 .ensures ∙ rw (c .before .before .before .before .before .before .put-u32 .ensures) (sym (write-parts 4 4 (a .s .now) (a .k) (a .x)))
 
 pub put-u64-spec : {M : Type 1} → statement M
 put-u64-spec =
