@@ -68,11 +68,12 @@ loop-less c = omega arith
 
 loop-again : tie.Need-loop-again Inv-loop μ-loop
 loop-again c =
-    let list = c .before .before .before .before .before .before .before .args .t1 in
-    let i = c .before .before .before .before .before .before .loop .i in (
+    let turn = c .before .before .before .before .before .before in
+    let list = turn .before .args .t1 in
+    let i = turn .loop .i in (
       omega arith,
       rw (toZ-ofZ w64 (listedAt list i .time) (record { sfits = c .before .before .before .struct-told .given .1 .0 .1 }), c .put-site .ensures)
-          (fields-next (listedAt list) i (c .before .before .before .before .before .before .loop .inv .1) refl),
+          (fields-next (listedAt list) i (turn .loop .inv .1) refl),
     )
 
 returns : tie.Need-returns Inv-loop μ-loop

@@ -1,6 +1,6 @@
--- `receptions::of_bytes` meets its contract. Assumes nothing.
+-- `receptions::of_bytes` meets its contract: each turn puts the next reception into the list (`begins-next`), whose fields are then those of the receptions (`fields-same`). Assumes nothing.
 use borrow.Author.Needs.{needs}
-use mathlib.Core.Path.{_≡_, _∙_}
+use mathlib.Core.Path.{_∙_}
 use Prim.Native.Nat.{_-_, _≤_}
 use native.Mathlib.Omega.{arith}
 use Rattle.receptions.specs.Receptions.{receptionAt, listedAt}
@@ -36,25 +36,18 @@ loop-less : tie.Need-loop-less Inv-loop μ-loop
 loop-less c = omega arith
 
 loop-again : tie.Need-loop-again Inv-loop μ-loop
-loop-again c = (
-  omega arith,
-  begins-next
-      (receptionAt (c .before .before .before .before .before .args .receptions .now))
-      (c .before .before .loop .i)
-      (c .before .before .loop .list)
-      (c .before .before .loop .inv .1)
-      (omega arith)
-      (c .reception-at .ensures),
-)
+loop-again c =
+    let turn = c .before .before in
+    (omega arith, begins-next (receptionAt (turn .before .before .before .args .receptions .now)) (turn .loop .i) (turn .loop .list) (turn .loop .inv .1) (omega arith) (c .reception-at .ensures))
 
 by-field-requires : tie.Need-by-field-requires Inv-loop μ-loop
 by-field-requires c κs = search needs
 
 returns : tie.Need-returns Inv-loop μ-loop
 returns c =
-    let e : c .before .before .loop .i ≡ c .before .before .before .before .before .args .n = omega arith in
-    c .by-field .ensures
-    ∙ fields-same (listedAt (c .before .before .loop .list)) (receptionAt (c .before .before .before .before .before .args .receptions .now)) (c .before .before .before .before .before .args .n) (λ k l. c .before .before .loop .inv .1 .1 k (omega arith))
+    let filled = c .before .before in
+    let a = filled .before .before .before .args in
+    c .by-field .ensures ∙ fields-same (listedAt (filled .loop .list)) (receptionAt (a .receptions .now)) (a .n) (λ k l. filled .loop .inv .1 .1 k (omega arith))
 
 pub of-bytes-spec : {M : Type 1} → statement M
 of-bytes-spec =

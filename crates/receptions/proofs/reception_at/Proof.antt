@@ -1,4 +1,4 @@
--- `receptions::reception_at` meets its contract: field by field. Assumes nothing.
+-- `receptions::reception_at` meets its contract: field by field, and i64s come back from their bits (`toZ-ofZ`). Assumes nothing.
 use borrow.Author.Needs.{needs}
 use mir.Syntax.{w64}
 use mir.ValLaws.{toZ-ofZ}
@@ -57,16 +57,20 @@ u64-at-requires-2 c κs = search needs
 returns : tie.Need-returns
 unfolding receptionAt
 returns c =
+    let time = c .before .before .before in
+    let z = time .before .before in
+    let y = z .before in
+    let x = y .before in
     rw (
-      toZ-ofZ w64 (c .before .before .before .before .before .before .before .i64-at .result) (record { sfits = c .before .before .before .before .before .before .before .i64-at .ok }),
-      toZ-ofZ w64 (c .before .before .before .before .before .before .i64-at2 .result) (record { sfits = c .before .before .before .before .before .before .i64-at2 .ok }),
-      toZ-ofZ w64 (c .before .before .before .before .before .i64-at3 .result) (record { sfits = c .before .before .before .before .before .i64-at3 .ok }),
-      toZ-ofZ w64 (c .before .before .before .i64-at4 .result) (record { sfits = c .before .before .before .i64-at4 .ok }),
-      c .before .before .before .before .before .before .before .i64-at .ensures,
-      c .before .before .before .before .before .before .i64-at2 .ensures,
-      c .before .before .before .before .before .i64-at3 .ensures,
-      c .before .before .before .before .u64-at .ensures,
-      c .before .before .before .i64-at4 .ensures,
+      toZ-ofZ w64 (x .i64-at .result) (record { sfits = x .i64-at .ok }),
+      toZ-ofZ w64 (y .i64-at2 .result) (record { sfits = y .i64-at2 .ok }),
+      toZ-ofZ w64 (z .i64-at3 .result) (record { sfits = z .i64-at3 .ok }),
+      toZ-ofZ w64 (time .i64-at4 .result) (record { sfits = time .i64-at4 .ok }),
+      x .i64-at .ensures,
+      y .i64-at2 .ensures,
+      z .i64-at3 .ensures,
+      time .before .u64-at .ensures,
+      time .i64-at4 .ensures,
       c .before .before .f64-at .ensures,
       c .before .f64-at2 .ensures,
       c .u64-at2 .ensures,
