@@ -1,3 +1,4 @@
+-- The laws that the proofs share. Order and Alike serve the crates above too.
 pub mod Limits
 pub mod Alike
 pub mod Steps

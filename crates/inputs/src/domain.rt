@@ -4,7 +4,8 @@ ghost use mathlib.Core.Bool.{_&&_};
 ghost use Rattle.inputs.specs.Domain as domain;
 use receptions::Reception;
 
-// Picoseconds, millimetres, metres, square metres and metres, by document 01.
+// The ends of the domain, by document 01: picoseconds, millimetres, metres, square metres (three of
+// them) and metres.
 const TIME: i64 = 10_000_000_000_000;
 
 const COORDINATE: i64 = 10_000_000_000;
