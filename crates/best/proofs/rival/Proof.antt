@@ -8,16 +8,18 @@ use Rattle.best.proofs.Constants.{nine}
 use Rattle.best.proofs.rival.Statement.{statement}
 use Rattle.best.proofs.rival.Tie as tie
 
+-- by whether the other costs too much
+abbrev decided : tie.Start → Bool → Bool
+decided s dear = not dear && lt (s .args .limit) (distance (s .args .best) (s .args .other))
+
 returns : tie.Need-returns
-returns c =
-    let a = c .before .before .before .args in
-    rw nine (ap (λ (b : Bool). not b && lt (a .limit) (distance (a .best) (a .other))) (sym (c .if1 .taken)))
+returns c = rw nine (ap (decided (c .before .before .before)) (sym (c .if1 .taken)))
 
 distance-requires : tie.Need-distance-requires
 distance-requires c κs = search needs
 
 returns-2 : tie.Need-returns-2
-returns-2 c = rw (nine, c .before .if1 .left, c .distance .ensures)
+returns-2 c = rw (nine, c .distance .ensures) (ap (decided (c .before .before .before .before)) (sym (c .before .if1 .left)))
 
 pub rival-spec : {M : Type 1} → statement M
 rival-spec =
