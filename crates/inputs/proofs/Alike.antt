@@ -6,16 +6,14 @@ use mathlib.Core.List.{List}
 use native.Mathlib.Omega.{arith}
 use borrow.Author.Tests.{leb-true}
 use lib.Dec.{leb}
-use lib.IntN.{pos}
-use lib.ListN.{getD, replicate}
 use lib.Ieee.{Float}
 use Rattle.dense.specs.Entries.{nth}
 use Rattle.geo.specs.Geo.{fromMm}
 use Rattle.receptions.specs.declared.Reception.{Reception}
 use Rattle.receptions.specs.declared.Fields.{Fields}
-use Rattle.receptions.specs.Receptions.{wholes, floats, fieldsOf, receptionIn}
+use Rattle.receptions.specs.Receptions.{floats, fieldsOf, receptionIn}
 use Rattle.receptions.proofs.Filling.{fill-same}
-use Rattle.receptions.proofs.Unpacked.{Alike, read-back}
+use Rattle.receptions.proofs.Unpacked.{Alike, fields-alike, read-back}
 use Rattle.inputs.specs.declared.Given.{Given}
 use Rattle.inputs.specs.declared.Check.{Check}
 use Rattle.inputs.specs.Faults.{firstTo}
@@ -26,12 +24,6 @@ use Rattle.inputs.proofs.Sound.{made}
 good-alike : (r s : Reception) → Alike r s → goodReception r ≡ goodReception s
 unfolding goodReception
 good-alike r s a = rw (a .1, a .2, a .3, a .4, a .5, a .6, a .7)
-
-coordinate : (r s : Reception) → Alike r s → (k : ℕ) → k < 3 → getD (r .«site_mm») k (pos 0) ≡ getD (s .«site_mm») k (pos 0)
-coordinate r s a zero h = a .2
-coordinate r s a (suc zero) h = a .3
-coordinate r s a (suc (suc zero)) h = a .4
-coordinate r s a (suc (suc (suc k))) h = absurd (omega arith)
 
 metres-alike : (r s : Reception) → Alike r s → fromMm (r .«site_mm») ≡ fromMm (s .«site_mm»)
 unfolding fromMm
@@ -51,19 +43,6 @@ module _ (p q : ℕ → Reception) (n : ℕ) (alike : (i : ℕ) → i < n → Al
   check-alike : (i : ℕ) → i < n → checkReception p i ≡ checkReception q i
   unfolding checkReception
   check-alike i h = rw (good-alike (p i) (q i) (alike i h), ascends-alike i h)
-
-  fields-alike : fieldsOf p n ≡ fieldsOf q n
-  unfolding fieldsOf
-  fields-alike =
-      rw (
-        fill-same (replicate 32 0) (λ i. p i .id) (λ i. q i .id) n (λ i l. alike i l .0),
-        fill-same (wholes 32) (λ i. p i .time) (λ i. q i .time) n (λ i l. alike i l .1),
-        fill-same (wholes 96) (λ k. getD (p (k / 3) .«site_mm») (k % 3) (pos 0)) (λ k. getD (q (k / 3) .«site_mm») (k % 3) (pos 0)) (3 * n)
-            (λ k l. coordinate (p (k / 3)) (q (k / 3)) (alike (k / 3) (omega arith)) (k % 3) (omega arith)),
-        fill-same (floats 32) (λ i. p i .z) (λ i. q i .z) n (λ i l. alike i l .5),
-        fill-same (floats 32) (λ i. p i .«noise_m2») (λ i. q i .«noise_m2») n (λ i l. alike i l .6),
-        fill-same (replicate 32 0) (λ i. p i .filler) (λ i. q i .filler) n (λ i l. alike i l .7),
-      )
 
   sites-alike : metresOf p n ≡ metresOf q n
   sites-alike = fill-same (floats 96) (λ k. nth (fromMm (p (k / 3) .«site_mm»)) (k % 3)) (λ k. nth (fromMm (q (k / 3) .«site_mm»)) (k % 3)) (3 * n) (λ k l. rw (metres-alike (p (k / 3)) (q (k / 3)) (alike (k / 3) (omega arith))))

@@ -1,6 +1,6 @@
 -- Receptions in a list that is being filled and in arrays by field: one more, and what the arrays hold. Assumes nothing.
-use Prim.Native.Nat.{ℕ, _+_, _*_, _/_, _%_, _<_, _≤_}
-use mathlib.Core.Path.{_≡_, _∙_, ap}
+use Prim.Native.Nat.{ℕ, zero, suc, _+_, _*_, _/_, _%_, _<_, _≤_}
+use mathlib.Core.Path.{_≡_, refl, subst, _∙_, ap}
 use mathlib.Core.Logic.{_⊎_, inl, inr}
 use mathlib.Core.List.{List}
 use native.Mathlib.Omega.{arith}
@@ -50,20 +50,6 @@ fields-next at i {f} {r} e q =
       fill-next (replicate 32 0) (λ i. at i .filler) i,
     )
 
--- the fields depend on the first n receptions only
-pub fields-same : (f g : ℕ → Reception) (n : ℕ) → ((i : ℕ) → i < n → f i ≡ g i) → fieldsOf f n ≡ fieldsOf g n
-unfolding fieldsOf
-fields-same f g n h =
-    rw (
-      fill-same (replicate 32 0) (λ i. f i .id) (λ i. g i .id) n (λ i l. ap (λ (r : Reception). r .id) (h i l)),
-      fill-same (wholes 32) (λ i. f i .time) (λ i. g i .time) n (λ i l. ap (λ (r : Reception). r .time) (h i l)),
-      fill-same (wholes 96) (λ k. getD (f (k / 3) .«site_mm») (k % 3) (pos 0)) (λ k. getD (g (k / 3) .«site_mm») (k % 3) (pos 0)) (3 * n)
-          (λ k l. ap (λ (r : Reception). getD (r .«site_mm») (k % 3) (pos 0)) (h (k / 3) (omega arith))),
-      fill-same (floats 32) (λ i. f i .z) (λ i. g i .z) n (λ i l. ap (λ (r : Reception). r .z) (h i l)),
-      fill-same (floats 32) (λ i. f i .«noise_m2») (λ i. g i .«noise_m2») n (λ i l. ap (λ (r : Reception). r .«noise_m2») (h i l)),
-      fill-same (replicate 32 0) (λ i. f i .filler) (λ i. g i .filler) n (λ i l. ap (λ (r : Reception). r .filler) (h i l)),
-    )
-
 -- two receptions that are read alike
 abbrev pub Alike : Reception → Reception → Type 0
 Alike r s =
@@ -75,6 +61,29 @@ Alike r s =
     × (r .z ≡ s .z)
     × (r .«noise_m2» ≡ s .«noise_m2»)
     × (r .filler ≡ s .filler)
+
+coordinate-alike : (r s : Reception) → Alike r s → (k : ℕ) → k < 3 → getD (r .«site_mm») k (pos 0) ≡ getD (s .«site_mm») k (pos 0)
+coordinate-alike r s a zero h = a .2
+coordinate-alike r s a (suc zero) h = a .3
+coordinate-alike r s a (suc (suc zero)) h = a .4
+coordinate-alike r s a (suc (suc (suc k))) h = absurd (omega arith)
+
+-- the fields depend on the first n receptions only, and on them as they are read
+pub fields-alike : (p q : ℕ → Reception) (n : ℕ) → ((i : ℕ) → i < n → Alike (p i) (q i)) → fieldsOf p n ≡ fieldsOf q n
+unfolding fieldsOf
+fields-alike p q n alike =
+    rw (
+      fill-same (replicate 32 0) (λ i. p i .id) (λ i. q i .id) n (λ i l. alike i l .0),
+      fill-same (wholes 32) (λ i. p i .time) (λ i. q i .time) n (λ i l. alike i l .1),
+      fill-same (wholes 96) (λ k. getD (p (k / 3) .«site_mm») (k % 3) (pos 0)) (λ k. getD (q (k / 3) .«site_mm») (k % 3) (pos 0)) (3 * n)
+          (λ k l. coordinate-alike (p (k / 3)) (q (k / 3)) (alike (k / 3) (omega arith)) (k % 3) (omega arith)),
+      fill-same (floats 32) (λ i. p i .z) (λ i. q i .z) n (λ i l. alike i l .5),
+      fill-same (floats 32) (λ i. p i .«noise_m2») (λ i. q i .«noise_m2») n (λ i l. alike i l .6),
+      fill-same (replicate 32 0) (λ i. p i .filler) (λ i. q i .filler) n (λ i l. alike i l .7),
+    )
+
+pub fields-same : (p q : ℕ → Reception) (n : ℕ) → ((i : ℕ) → i < n → p i ≡ q i) → fieldsOf p n ≡ fieldsOf q n
+fields-same p q n same = fields-alike p q n (λ i l. subst (Alike (p i)) (same i l) (refl, refl, refl, refl, refl, refl, refl, refl))
 
 -- reception i of the arrays is reception i
 pub read-back : (at : ℕ → Reception) (n i : ℕ) → n ≤ 32 → i < n → Alike (receptionIn (fieldsOf at n) i) (at i)

@@ -1,15 +1,21 @@
 -- `inputs::altitude_of` meets its contract: by whether it is there, and its kind. Assumes nothing.
 use borrow.Author.Needs.{needs}
+use mathlib.Core.Path.{_≡_}
 use borrow.Author.Tests.{eq-eqb, ne-eqb}
+use lib.ListN.{length}
 use Rattle.inputs.proofs.Steps.{sized-there}
 use Rattle.inputs.proofs.altitude_of.Statement.{statement}
 use Rattle.inputs.proofs.altitude_of.Tie as tie
 
+-- where it is there, it has 16 bytes
+whole : (c : tie.Then1) → length (c .before .before .args .altitude .now) ≡ 16
+whole c = let start = c .before .before in sized-there 16 (start .args .there) (start .args .altitude .now) (c .if1 .taken) (start .pre)
+
 metres-at-requires : tie.Need-metres-at-requires
-metres-at-requires c κs = sized-there 16 (c .before .before .args .there) (c .before .before .args .altitude .now) (c .if1 .taken) (c .before .before .pre)
+metres-at-requires c κs = whole c
 
 kind-at-requires : tie.Need-kind-at-requires
-kind-at-requires c κs = sized-there 16 (c .before .before .before .args .there) (c .before .before .before .args .altitude .now) (c .before .if1 .taken) (c .before .before .before .pre)
+kind-at-requires c κs = whole (c .before)
 
 returns : tie.Need-returns
 returns c = rw (c .before .before .before .if1 .taken, ← c .before .before .metres-at .ensures, ← c .before .kind-at .ensures, eq-eqb _ _ (c .if2 .taken))

@@ -1,19 +1,26 @@
 -- `inputs::check_altitude` meets its contract: by whether it is there. Assumes nothing.
 use borrow.Author.Needs.{needs}
-use mathlib.Core.Path.{_∙_}
+use mathlib.Core.Path.{_≡_, _∙_}
 use borrow.Author.Tests.{not-true, not-false}
+use lib.ListN.{length}
 use Rattle.inputs.proofs.Steps.{sized-there}
 use Rattle.inputs.proofs.check_altitude.Statement.{statement}
 use Rattle.inputs.proofs.check_altitude.Tie as tie
+
+-- where it is there, it has 16 bytes
+whole : (c : tie.Else1) → length (c .before .before .args .altitude .now) ≡ 16
+whole c =
+    let start = c .before .before in
+    sized-there 16 (start .args .there) (start .args .altitude .now) (not-false (start .args .there) (c .if1 .left)) (start .pre)
 
 returns : tie.Need-returns
 returns c = rw (not-true (c .before .before .args .there) (c .if1 .taken))
 
 kind-at-requires : tie.Need-kind-at-requires
-kind-at-requires c κs = sized-there 16 (c .before .before .args .there) (c .before .before .args .altitude .now) (not-false (c .before .before .args .there) (c .if1 .left)) (c .before .before .pre)
+kind-at-requires c κs = whole c
 
 metres-at-requires : tie.Need-metres-at-requires
-metres-at-requires c κs = sized-there 16 (c .before .before .before .args .there) (c .before .before .before .args .altitude .now) (not-false (c .before .before .before .args .there) (c .before .if1 .left)) (c .before .before .before .pre)
+metres-at-requires c κs = whole (c .before)
 
 good-altitude-requires : tie.Need-good-altitude-requires
 good-altitude-requires c κs = search needs
@@ -22,7 +29,10 @@ unless-requires : tie.Need-unless-requires
 unless-requires c κs = search needs
 
 returns-2 : tie.Need-returns-2
-returns-2 c = c .unless .ensures ∙ rw (c .before .good-altitude .ensures, c .before .before .before .kind-at .ensures, c .before .before .metres-at .ensures, not-false (c .before .before .before .before .before .before .args .there) (c .before .before .before .before .if1 .left))
+returns-2 c =
+    let kind = c .before .before .before in
+    c .unless .ensures
+    ∙ rw (c .before .good-altitude .ensures, kind .kind-at .ensures, c .before .before .metres-at .ensures, not-false (kind .before .before .before .args .there) (kind .before .if1 .left))
 
 pub check-altitude-spec : {M : Type 1} → statement M
 check-altitude-spec =

@@ -13,7 +13,12 @@ rem-j : tie.Need-rem-j
 rem-j c = some-rows (c .before .args .n) (c .before .args .k) (c .before .pre .1)
 
 entry-at-requires : tie.Need-entry-at-requires
-entry-at-requires c κs = let r = some-rows (c .before .before .args .n) (c .before .before .args .k) (c .before .before .pre .1) in (c .before .before .pre .0, div-lt-iff-lt-mul {k = c .before .before .args .n} {x = c .before .before .args .k} {y = c .before .before .args .n} r .1 (c .before .before .pre .1), mod-lt (c .before .before .args .k) r, c .before .before .pre .2)
+entry-at-requires c κs =
+    let start = c .before .before in
+    let n = start .args .n in
+    let k = start .args .k in
+    let r = some-rows n k (start .pre .1) in
+    (start .pre .0, div-lt-iff-lt-mul {k = n} {x = k} {y = n} r .1 (start .pre .1), mod-lt k r, start .pre .2)
 
 returns : tie.Need-returns
 unfolding upperAt
