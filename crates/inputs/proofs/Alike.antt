@@ -45,7 +45,9 @@ module _ (p q : ℕ → Reception) (n : ℕ) (alike : (i : ℕ) → i < n → Al
   check-alike i h = rw (good-alike (p i) (q i) (alike i h), ascends-alike i h)
 
   sites-alike : metresOf p n ≡ metresOf q n
-  sites-alike = fill-same (floats 96) (λ k. nth (fromMm (p (k / 3) .«site_mm»)) (k % 3)) (λ k. nth (fromMm (q (k / 3) .«site_mm»)) (k % 3)) (3 * n) (λ k l. rw (metres-alike (p (k / 3)) (q (k / 3)) (alike (k / 3) (omega arith))))
+  sites-alike =
+      fill-same (floats 96) (λ k. nth (fromMm (p (k / 3) .«site_mm»)) (k % 3)) (λ k. nth (fromMm (q (k / 3) .«site_mm»)) (k % 3)) (3 * n)
+      (λ k l. rw (metres-alike (p (k / 3)) (q (k / 3)) (alike (k / 3) (omega arith))))
 
 -- the arrays f hold the receptions `at`, if there are no more than 32
 module _ (f : Fields) (n : ℕ) (at : ℕ → Reception) (filled : n ≤ 32 → f ≡ fieldsOf at n) where

@@ -124,7 +124,9 @@ module _ (I : Inputs) where
     whole-reference = both-of (sized 16 (I .altitude)) (sized 8 (I .reference)) (parts .1) .1
 
 -- a clock that is there has its size, and its rows pass
-pub clock-of : (there : Bool) (b : List ℕ) (n : ℕ) → checkClock (given there b) n ≡ Passed → checkCovered (given there b) ≡ Passed → (Option·getD (given there b) [] ≡ b) × (length b ≡ 8 * (n * n)) × (firstTo (checkRow b n) n ≡ Passed)
+pub clock-of
+    : (there : Bool) (b : List ℕ) (n : ℕ) → checkClock (given there b) n ≡ Passed → checkCovered (given there b) ≡ Passed
+    → (Option·getD (given there b) [] ≡ b) × (length b ≡ 8 * (n * n)) × (firstTo (checkRow b n) n ≡ Passed)
 clock-of true b n e f =
     let p = or-of (unless (eqb (length b) (8 * (n * n))) ClockSize) (firstTo (checkRow b n) n) e in
     (refl, eqb-true (length b) (8 * (n * n)) (good-of _ ClockSize (p .0)), p .1)

@@ -177,10 +177,12 @@ module _ (f : Fields) (n : ℕ) (g : Given) (b alt ref : List ℕ) (pre : (f ≡
   J = inputsOf true n (receptionIn f) g b alt ref
 
   pub is-problem
-      : {site clock : List Float} {altitude : Altitude} {reference : ℤ} → site ≡ metresOf (receptionIn f) n → clock ≡ covarianceOf b n → altitude ≡ altitudeOf (J .altitude) → reference ≡ referenceOf (J .reference)
+      : {site clock : List Float} {altitude : Altitude} {reference : ℤ}
+      → site ≡ metresOf (receptionIn f) n → clock ≡ covarianceOf b n → altitude ≡ altitudeOf (J .altitude) → reference ≡ referenceOf (J .reference)
       → (made n f site clock altitude reference ≡ problemOf J) × InDomain (made n f site clock altitude reference) × Ascending (receptionIn f) n
   unfolding problemOf
   is-problem s c a r =
       let e : made n f (metresOf (receptionIn f) n) (covarianceOf b n) (altitudeOf (J .altitude)) (referenceOf (J .reference)) ≡ problemOf J
-      = ap₂ (λ (h : Fields) (k : List ℕ). made n h (metresOf (receptionIn f) n) (covarianceOf k n) (altitudeOf (J .altitude)) (referenceOf (J .reference))) (pre .0) (sym (clock-whole n (receptionIn f) g b alt ref (pre .1) .0)) in
+      = ap₂ (λ (h : Fields) (k : List ℕ). made n h (metresOf (receptionIn f) n) (covarianceOf k n) (altitudeOf (J .altitude)) (referenceOf (J .reference)))
+      (pre .0) (sym (clock-whole n (receptionIn f) g b alt ref (pre .1) .0)) in
       rw (s, c, a, r) (e, subst InDomain (sym e) (in-domain n (receptionIn f) g b alt ref (pre .1)), ascending n (receptionIn f) g b alt ref (pre .1))
