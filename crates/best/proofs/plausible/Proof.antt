@@ -31,10 +31,10 @@ all-near-requires : tie.Need-all-near-requires
 all-near-requires c κs = search needs
 
 -- by the height's test and that of the ranges
-by-parts : (sites p : List Float) (k : ℕ) {x : Geodetic} {flies r : Bool} → x ≡ fromEcef (position p) → flies ≡ (le minHeightM (x .«height_m») && le (x .«height_m») maxHeightM)
-    → r ≡ (flies && nearTo sites (position p) k) → r ≡ plausible sites k p
+by-parts : (sites p : List Float) (k : ℕ) {at : Geodetic} {flies r : Bool}
+    → at ≡ fromEcef (position p) → flies ≡ (le minHeightM (at .«height_m») && le (at .«height_m») maxHeightM) → r ≡ (flies && nearTo sites (position p) k) → r ≡ plausible sites k p
 unfolding plausible
-by-parts sites p k x f r = r ∙ rw (f, x)
+by-parts sites p k place height near = near ∙ rw (height, place)
 
 returns : tie.Need-returns
 returns c = by-parts _ _ _ (c .before .before .before .from-ecef .ensures) (c .before .before .flying .ensures) (rw (c .before .if1 .taken) (c .all-near .ensures))
