@@ -66,7 +66,7 @@ module _ {sites : List Float} {k : ℕ} {fits : List Fit} {n top : ℕ} {S : Sub
 
 -- ---- the whitener first, whose answer the code holds as a flag b beside the array l
 module _ (clock : List Float) (n : ℕ) (noise : List Float) (index : List ℕ) (sites z : List Float) (k : ℕ) (altitude : Altitude) (starts : List (List Float))
-    (b : Bool) (l : List Float) (e : verdict b l ≡ whitener clock n noise index k zeros) (o : Outcome Unfit Fit) where
+    (b : Bool) (l : List Float) (e : verdict b l ≡ whitener clock n noise index k zeros) where
   abbrev outcome : Outcome Unfit Fit
   outcome = bestFit clock n noise index sites z k altitude starts
 
@@ -74,11 +74,11 @@ module _ (clock : List Float) (n : ℕ) (noise : List Float) (index : List ℕ) 
   unfolding bestFit
   told-by f = ap (λ (F : factor.Factor). whitened F (λ w. best (chosen k sites z w altitude) starts)) f
 
-  pub whitened-found : b ≡ true → (fits : List Fit) → fits ≡ map (levenbergMarquardt (chosen k sites z l altitude)) starts → o ≡ judged sites k fits (bestOf sites k fits) → o ≡ outcome
+  pub whitened-found : b ≡ true → (fits : List Fit) → fits ≡ map (levenbergMarquardt (chosen k sites z l altitude)) starts → judged sites k fits (bestOf sites k fits) ≡ outcome
   unfolding best
-  whitened-found t fits f g =
-      g ∙ ap (λ (fs : List Fit). judged sites k fs (bestOf sites k fs)) f
+  whitened-found t fits f =
+      ap (λ (fs : List Fit). judged sites k fs (bestOf sites k fs)) f
       ∙ ap (λ (x : Bool). whitened (verdict x l) (λ w. best (chosen k sites z w altitude) starts)) (sym t) ∙ told-by e
 
-  pub whitened-refused : b ≡ false → o ≡ fails Singular → o ≡ outcome
-  whitened-refused t g = g ∙ ap (λ (x : Bool). whitened (verdict x l) (λ w. best (chosen k sites z w altitude) starts)) (sym t) ∙ told-by e
+  pub whitened-refused : b ≡ false → fails Singular ≡ outcome
+  whitened-refused t = ap (λ (x : Bool). whitened (verdict x l) (λ w. best (chosen k sites z w altitude) starts)) (sym t) ∙ told-by e

@@ -1,5 +1,5 @@
 -- `best_fit` of solve.rs, over the fits from a list of starts. Definitions only.
-use mathlib.Core.Bool.{Bool, false, not, cond, _&&_}
+use mathlib.Core.Bool.{Bool, true, false, not, cond, _&&_}
 use mathlib.Core.List.{List, [], _∷_, _++_, map}
 use mathlib.Core.Option.{Option, none, some}
 use Prim.Native.Nat.{ℕ, zero, suc}
@@ -18,7 +18,7 @@ use Rattle.limits.specs.Limits.{chi2Limit}
 use Rattle.whitening.specs.Covariance.{whitener}
 use Rattle.whitening.specs.Whitened.{Chosen, chosen}
 use Rattle.damped.specs.declared.Fit.{Fit}
-use Rattle.damped.specs.Damped.{levenbergMarquardt}
+use Rattle.damped.specs.Damped.{unfitted, levenbergMarquardt}
 use Rattle.starts.specs.Points.{point}
 use Rattle.best.specs.declared.Unfit.{Unfit}
 use Rattle.best.specs.declared.Unfit.the-variants.{NoConvergence, OutOfRange, Ambiguous, Singular}
@@ -30,9 +30,10 @@ pub data Outcome (E A : Type 0) : Type 0 where
   fails : E → Outcome E A
   gives : A → Outcome E A
 
--- as the code tells it
-abbrev pub told : Best → Outcome Unfit Fit
-told r = cond (r .found) (gives (r .fit)) (fails (r .why))
+-- as the code holds it: no fit beside a refusal, and the first refusal beside a fit
+abbrev pub asBest : Outcome Unfit Fit → Best
+asBest (fails e) = record { found = false; why = e; fit = unfitted }
+asBest (gives f) = record { found = true; why = NoConvergence; fit = f }
 
 -- "squared Mahalanobis distance of the four parameters under the best's information": delta · (information delta)
 unfoldable pub distance : Fit → Fit → Float

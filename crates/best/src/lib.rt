@@ -15,7 +15,7 @@ ghost use Rattle.problem.specs.Gathered.{pick};
 ghost use Rattle.whitening.specs.Whitened.{chosen};
 ghost use Rattle.damped.specs.Damped.{unfitted, levenbergMarquardt};
 ghost use Rattle.best.specs.Plausible.{minHeightM, maxHeightM, maxRangeM, range, nearTo, plausible};
-ghost use Rattle.best.specs.Best.{fails, told, distance, explainsAlike, fitAt, cheaper, any, weighed, bestOf, judged, pointsTo, bestFit};
+ghost use Rattle.best.specs.Best.{fails, asBest, distance, explainsAlike, fitAt, cheaper, any, weighed, bestOf, judged, pointsTo, bestFit};
 use damped::Fit;
 use linalg::Cholesky;
 use problem::Altitude;
@@ -246,7 +246,7 @@ fn rivalled(fits: [Fit; 18], mask: u32, best: Fit, count: usize) -> bool
 }
 
 fn refused(why: Unfit) -> Best
-    ensures { λ r. ⌜ told r ≡ fails why ⌝ }
+    ensures { λ r. ⌜ r ≡ asBest (fails why) ⌝ }
 {
     let fit = no_fit();
     Best {
@@ -259,7 +259,7 @@ fn refused(why: Unfit) -> Best
 // What the fits come to.
 fn judged(sites: &[f64; 96], k: usize, fits: [Fit; 18], count: usize) -> Best
     requires { ⌜ (k ≤ 32) × (count ≤ 18) ⌝ }
-    ensures { λ r. ⌜ told r ≡ judged (now (sites .entry)) k (take count fits) (bestOf (now (sites .entry)) k (take count fits)) ⌝ }
+    ensures { λ r. ⌜ r ≡ asBest (judged (now (sites .entry)) k (take count fits) (bestOf (now (sites .entry)) k (take count fits))) ⌝ }
 {
     let mask = weighed(sites, k, fits, count);
     let top = best_of(fits, mask, count);
@@ -298,7 +298,7 @@ pub fn best_fit(
 ) -> Best
     requires { ⌜ (n ≤ 32) × (k ≤ 32) × (count ≤ 18) ⌝ }
     requires { ⌜ ((a : ℕ) → a < k → pick (now index) a < n) ⌝ }
-    ensures { λ r. ⌜ told r ≡ bestFit (now («clock_m2» .entry)) n (now («noise_m2» .entry)) (now (index .entry)) (now (sites .entry)) (now (z .entry)) k altitude (pointsTo (now (at .entry)) count) ⌝ }
+    ensures { λ r. ⌜ r ≡ asBest (bestFit (now («clock_m2» .entry)) n (now («noise_m2» .entry)) (now (index .entry)) (now (sites .entry)) (now (z .entry)) k altitude (pointsTo (now (at .entry)) count)) ⌝ }
 {
     let mut factor = Cholesky {
         n: k,

@@ -20,8 +20,8 @@ use Rattle.rounds.specs.declared.answer.Answer as code
 use Rattle.rounds.specs.declared.answer.Case.{Case}
 use Rattle.rounds.specs.declared.answer.Case.the-variants as case
 use Rattle.rounds.specs.declared.answer.Refusal.{Refusal}
-use Rattle.rounds.specs.Setting.{Answer}
-use Rattle.rounds.specs.Solve.{told, answerOf, refusalNumber, refusalDetail, solveProblem}
+use Rattle.rounds.specs.Setting.{Answer, fix, refused, noFixedPoint}
+use Rattle.rounds.specs.Solve.{asAnswer, refusalNumber, refusalDetail, solveProblem}
 use Rattle.rounds.proofs.answer.Case as cases
 use Rattle.record.specs.declared.content.Fix.{Fix}
 use Rattle.record.specs.Record.{refusal}
@@ -48,21 +48,32 @@ is-unfixed case.NoFixedPoint e = refl
 abbrev pub made : ℕ → List ℕ → Reply
 made k l = record { number = k; bytes = l }
 
-module _ (n : ℕ) (altitude : Altitude) (a : code.Answer) where
-  told-by : (k : Case) → a .case ≡ k → answered n altitude (answerOf k (a .fix)) ≡ answered n altitude (told a)
-  told-by k e = ap (λ (c : Case). answered n altitude (answerOf c (a .fix))) (sym e)
+-- read back from what the code holds of it
+abbrev told : Case → Fix → Answer Fix
+told case.Fix x = fix x
+told (case.Refused why) x = refused why
+told case.NoFixedPoint x = noFixedPoint
 
-  pub fix-reply : (b : List ℕ) → a .case ≡ case.Fix → b ≡ shown.fix n altitude (a .fix) → made 0 b ≡ answered n altitude (told a)
-  fix-reply b e h = ap (made 0) h ∙ told-by case.Fix e
+told-as : (a : Answer Fix) → told (asAnswer a .case) (asAnswer a .fix) ≡ a
+told-as (fix x) = refl
+told-as (refused why) = refl
+told-as noFixedPoint = refl
+
+module _ (n : ℕ) (altitude : Altitude) (h : code.Answer) (a : Answer Fix) (A : h ≡ asAnswer a) where
+  told-by : (k : Case) → h .case ≡ k → answered n altitude (told k (h .fix)) ≡ answered n altitude a
+  told-by k e = ap (answered n altitude) (ap (λ (c : Case). told c (h .fix)) (sym e) ∙ ap (λ (x : code.Answer). told (x .case) (x .fix)) A ∙ told-as a)
+
+  pub fix-reply : (b : List ℕ) → h .case ≡ case.Fix → b ≡ shown.fix n altitude (h .fix) → made 0 b ≡ answered n altitude a
+  fix-reply b e f = ap (made 0) f ∙ told-by case.Fix e
 
   pub refusal-reply
-      : (r : Reply) (why : Refusal) (k d : ℕ) → a .case ≡ case.Refused why → k ≡ refusalNumber why → d ≡ refusalDetail why → (r .number ≡ k) × (r .bytes ≡ refusal k d n)
-      → r ≡ answered n altitude (told a)
-  refusal-reply r why k d e f g h =
-      ap₂ (λ (x : ℕ) (l : List ℕ). made x l) (h .0 ∙ f) (h .1 ∙ ap₂ (λ (x y : ℕ). refusal x y n) f g) ∙ told-by (case.Refused why) e
+      : (r : Reply) (why : Refusal) (k d : ℕ) → h .case ≡ case.Refused why → k ≡ refusalNumber why → d ≡ refusalDetail why → (r .number ≡ k) × (r .bytes ≡ refusal k d n)
+      → r ≡ answered n altitude a
+  refusal-reply r why k d e f g q =
+      ap₂ (λ (x : ℕ) (l : List ℕ). made x l) (q .0 ∙ f) (q .1 ∙ ap₂ (λ (x y : ℕ). refusal x y n) f g) ∙ told-by (case.Refused why) e
 
-  pub unfixed-reply : (r : Reply) → a .case ≡ case.NoFixedPoint → (r .number ≡ 4) × (r .bytes ≡ refusal 4 0 n) → r ≡ answered n altitude (told a)
-  unfixed-reply r e h = ap₂ (λ (x : ℕ) (l : List ℕ). made x l) (h .0) (h .1) ∙ told-by case.NoFixedPoint e
+  pub unfixed-reply : (r : Reply) → h .case ≡ case.NoFixedPoint → (r .number ≡ 4) × (r .bytes ≡ refusal 4 0 n) → r ≡ answered n altitude a
+  unfixed-reply r e q = ap₂ (λ (x : ℕ) (l : List ℕ). made x l) (q .0) (q .1) ∙ told-by case.NoFixedPoint e
 
 -- ---- the reply to inputs that are turned away
 
@@ -105,10 +116,9 @@ module _ (I : Inputs) (k : Check) (K : k ≡ checkInputs I) where
   unfolding reply
   refused-reply r fault e h = h ∙ ap (λ (c : Check). replied c I) (sym e ∙ K)
 
-  pub problem-reply : (r : Reply) (p : Problem) (a : Answer Fix) → k ≡ Passed → p ≡ problemOf I → a ≡ solveProblem p → r ≡ answered (I .n) (p .altitude) a → r ≡ reply I
+  pub problem-reply : (r : Reply) (p : Problem) → k ≡ Passed → p ≡ problemOf I → r ≡ answered (I .n) (p .altitude) (solveProblem p) → r ≡ reply I
   unfolding reply
-  problem-reply r p a e P A h =
+  problem-reply r p e P h =
       h
-      ∙ ap (answered (I .n) (p .altitude)) A
       ∙ ap (λ (q : Problem). answered (I .n) (q .altitude) (solveProblem q)) P
       ∙ ap (λ (c : Check). replied c I) (sym e ∙ K)

@@ -5,7 +5,9 @@ ghost use lib.ListN.{length};
 ghost use Rattle.receptions.specs.Receptions.{fieldsOf, receptionIn};
 ghost use Rattle.inputs.specs.Faults.{passed, numberOf};
 ghost use Rattle.inputs.specs.Inputs.{inputsOf, checkInputs, problemOf};
-ghost use Rattle.rounds.specs.Solve.{told, refusalNumber, refusalDetail};
+ghost use Rattle.rounds.specs.Setting as setting;
+ghost use Rattle.rounds.specs.Solve.{asAnswer, refusalNumber, refusalDetail};
+ghost use Rattle.record.specs.declared.content.Fix as content;
 ghost use Rattle.record.specs.Record as shown;
 ghost use Rattle.entry.specs.Reply as reply;
 use inputs::Check;
@@ -81,7 +83,7 @@ fn refused(number: u32, detail: u32, n: u32) -> Reply
 
 // The reply of an answer to a problem of n receptions.
 fn answered(n: u32, altitude: Altitude, answer: Answer) -> Reply
-    ensures { λ r. ⌜ r ≡ reply.answered n altitude (told answer) ⌝ }
+    ensures { λ r. ⌜ ((a : setting.Answer content.Fix) → answer ≡ asAnswer a → r ≡ reply.answered n altitude a) ⌝ }
 {
     let case = answer.case;
     match case {

@@ -1,5 +1,5 @@
 -- What `finish` gives, by the tests that its code makes. Assumes nothing.
-use mathlib.Core.Path.{_≡_, sym, ap, _∙_}
+use mathlib.Core.Path.{_≡_, refl, sym, ap, _∙_}
 use mathlib.Core.Bool.{Bool, true, false, cond}
 use mathlib.Core.List.{List}
 use Prim.Native.Nat.{ℕ}
@@ -12,11 +12,13 @@ use Rattle.dense.specs.Inverse.{inverse}
 use Rattle.problem.specs.Problem.{moment}
 use Rattle.limits.specs.Local.{published}
 use Rattle.damped.specs.declared.Fit.{Fit}
-use Rattle.best.specs.Best.{fails, gives}
+use Rattle.best.specs.Best.{Outcome, fails, gives}
 use Rattle.record.specs.declared.content.Fix.{Fix}
 use Rattle.rounds.specs.declared.moment.Moment.{Moment}
+use Rattle.rounds.specs.declared.finish.Finished.{Finished}
+use Rattle.rounds.specs.declared.finish.Unpublished.{Unpublished}
 use Rattle.rounds.specs.declared.finish.Unpublished.the-variants.{Singular, Uncertain, OutOfRange}
-use Rattle.rounds.specs.Finish.{held, momentOf, transmitPs, certain, fixOf, shown, inverted, finish}
+use Rattle.rounds.specs.Finish.{held, momentOf, transmitPs, certain, fixOf, shown, inverted, finish, asFinished}
 use Rattle.rounds.proofs.Moments.{moment-held, moment-beyond}
 
 module _ (mask dof : ℕ) (reference : ℤ) (fit : Fit) where
@@ -52,3 +54,14 @@ module _ (mask dof : ℕ) (reference : ℤ) (fit : Fit) where
       gives-fix k x q =
           let t = moment-held time m M k in
           ap gives (q ∙ ap (fixOf mask dof fit c) (t .1)) ∙ timed true h (t .0)
+
+-- ---- the fix, or why there is none, read back from what the code holds of it
+abbrev told : Finished → Outcome Unpublished Fix
+told r = cond (r .published) (gives (r .fix)) (fails (r .why))
+
+told-as : (o : Outcome Unpublished Fix) → told (asFinished o) ≡ o
+told-as (fails e) = refl
+told-as (gives x) = refl
+
+pub read-back : (r : Finished) (o : Outcome Unpublished Fix) (b : Bool) → r ≡ asFinished o → r .published ≡ b → cond b (gives (r .fix)) (fails (r .why)) ≡ o
+read-back r o b e t = ap (λ (x : Bool). cond x (gives (r .fix)) (fails (r .why))) (sym t) ∙ ap told e ∙ told-as o

@@ -1,12 +1,14 @@
 -- The rounds' loop: what is left to answer after the rounds so far. Assumes nothing.
 use mathlib.Core.Path.{_≡_, sym, ap, ap₂, subst, _∙_}
 use mathlib.Core.Option.{Option, none, some}
-use mathlib.Core.Bool.{Bool}
+use mathlib.Core.Bool.{Bool, true, false}
 use mathlib.Core.List.{List}
 use Prim.Native.Nat.{ℕ, suc, _+_, _*_, _-_, _^_, _≤_, _<_}
 use native.Mathlib.Omega.{arith}
 use lib.IntN.{ℤ}
+use lib.ListN.{replicate}
 use lib.Ieee.{Float}
+use Rattle.binary64.specs.Steps.{nought}
 use Rattle.sets.specs.Sets.{Subset, count}
 use Rattle.sets.specs.Mask.{has}
 use Rattle.sets.proofs.Masks.{count-within}
@@ -41,12 +43,12 @@ module _ (R : Receptions) (bad : ℕ → ℕ → Bool) (reference : ℤ) (N : R 
     keeps = subst (Within P) (sym e) w;
   }
 
-  pub left-start : (s : State) (mask c : ℕ) → s .included ≡ mask → before s ≡ none → has mask ≡ kept P → mask < 2 ^ R .n → c ≡ count (has mask) 32 → Left (2 * c + 2 - 0) s
+  pub left-start : (s : State) (mask c : ℕ) → s ≡ record { included = mask; had = false; previous = replicate 4 nought } → has mask ≡ kept P → mask < 2 ^ R .n → c ≡ count (has mask) 32 → Left (2 * c + 2 - 0) s
   unfolding solved
-  left-start s mask c i b e m h =
+  left-start s mask c i e m h =
       let t : count (kept P) (R .n) ≡ c = ap (λ (S : Subset). count S (R .n)) (sym e) ∙ sym (count-within (R .n) mask m N) ∙ sym h in
       let d : 2 * survivors P + 2 ≡ 2 * c + 2 - 0 = omega (arith, t) in
-      left (2 * c + 2 - 0) (kept P) none s (ap has i ∙ e) b (ap (λ (j : ℕ). roundsTo P j (kept P) none) d) (λ j t. t)
+      left (2 * c + 2 - 0) (kept P) none s (ap (λ (x : State). has (x .included)) i ∙ e) (ap before i) (ap (λ (j : ℕ). roundsTo P j (kept P) none) d) (λ j t. t)
 
   -- ---- one round more
   module _ (k cap : ℕ) (s : State) (t : Turn) (f : Fit) (E : stepOf t f ≡ round P (has (s .included)) (before s)) (K : k < cap) (I : Left (cap - k) s) where
@@ -65,10 +67,10 @@ module _ (R : Receptions) (bad : ℕ → ℕ → Bool) (reference : ℤ) (N : R 
     pub left-settles : t ≡ Settles → closed (P .later (has (s .included)) f) ≡ solved P
     left-settles e = sym (next (settles f) (told-by Settles e))
 
-    pub left-changes : (m : ℕ) → t ≡ Changes m → (u : State) → u .included ≡ m → before u ≡ some (f .params) → Left (cap - (k + 1)) u
-    left-changes m e u i b =
+    pub left-changes : (m : ℕ) → t ≡ Changes m → (u : State) → u ≡ record { included = m; had = true; previous = f .params } → Left (cap - (k + 1)) u
+    left-changes m e u i =
         let step = told-by (Changes m) e in
-        left (cap - (k + 1)) (has m) (some (f .params)) u (ap has i) b (next (changes (has m) f) step)
+        left (cap - (k + 1)) (has m) (some (f .params)) u (ap (λ (x : State). has (x .included)) i) (ap before i) (next (changes (has m) f) step)
         (change-within P (subst (Says P (has (s .included)) (before s)) (sym step) (round-says P (has (s .included)) (before s) (I .keeps))) (I .keeps))
 
   pub left-never : (k cap : ℕ) (s : State) → cap ≤ k → Left (cap - k) s → noFixedPoint ≡ solved P

@@ -1,5 +1,5 @@
 -- A round by the tests that its code makes. Assumes nothing.
-use mathlib.Core.Path.{_≡_, sym, ap, ap₂, subst, _∙_}
+use mathlib.Core.Path.{_≡_, refl, sym, ap, ap₂, subst, _∙_}
 use mathlib.Core.Option.{Option}
 use mathlib.Core.Bool.{Bool, true, false, cond}
 use mathlib.Core.List.{List}
@@ -16,7 +16,7 @@ use Rattle.problem.specs.Problem.{minimum}
 use Rattle.damped.specs.declared.Fit.{Fit}
 use Rattle.best.specs.declared.Unfit.{Unfit}
 use Rattle.best.specs.declared.Best.{Best}
-use Rattle.best.specs.Best.{Outcome, fails, gives, told}
+use Rattle.best.specs.Best.{Outcome, fails, gives, asBest}
 use Rattle.best.specs.OfProblem.{Receptions, bestFitOver}
 use Rattle.record.specs.declared.content.Fix.{Fix}
 use Rattle.rounds.specs.declared.answer.Refusal.the-variants.{TooFew}
@@ -25,6 +25,14 @@ use Rattle.rounds.specs.Setting.{ofUnfit, Setting, kept}
 use Rattle.rounds.specs.Rounds.{ends, decided, begun, round}
 use Rattle.rounds.specs.Solve.{normalised, settingOf, stepOf}
 use Rattle.rounds.proofs.Searches.{decided-same}
+
+-- the best fit, or why there is none, read back from what the code holds of it
+abbrev told : Best → Outcome Unfit Fit
+told b = cond (b .found) (gives (b .fit)) (fails (b .why))
+
+told-as : (o : Outcome Unfit Fit) → told (asBest o) ≡ o
+told-as (fails e) = refl
+told-as (gives f) = refl
 
 module _ (R : Receptions) (bad : ℕ → ℕ → Bool) (reference : ℤ) (N : R .n ≤ 32) (mask : ℕ) (M : mask < 2 ^ R .n) (p : Option (List Float)) (c : ℕ) (C : c ≡ count (has mask) 32) where
   abbrev P : Setting (List Float) Fit Fix
@@ -43,9 +51,9 @@ module _ (R : Receptions) (bad : ℕ → ℕ → Bool) (reference : ℤ) (N : R 
   unfolding round
   enough h o e = sym (ap₂ (λ (b : Bool) (q : Outcome Unfit Fit). begun P (has mask) b q) (le-ltb (count (has mask) (R .n)) (minimum (R .altitude)) (subst (λ (k : ℕ). minimum (R .altitude) ≤ k) counted h)) (sym e))
 
-  module _ (h : minimum (R .altitude) ≤ c) (b : Best) (B : told b ≡ bestFitOver R (has mask) p) where
+  module _ (h : minimum (R .altitude) ≤ c) (b : Best) (B : b ≡ asBest (bestFitOver R (has mask) p)) where
     met : (t : Bool) → b .found ≡ t → cond t (gives (b .fit)) (fails (b .why)) ≡ P .bestFit (has mask) p
-    met t e = ap (λ (x : Bool). cond x (gives (b .fit)) (fails (b .why))) (sym e) ∙ B
+    met t e = ap (λ (x : Bool). cond x (gives (b .fit)) (fails (b .why))) (sym e) ∙ ap told B ∙ told-as (bestFitOver R (has mask) p)
 
     pub round-unfit : b .found ≡ false → ends (ofUnfit (b .why)) ≡ round P (has mask) p
     round-unfit e = enough h (fails (b .why)) (met false e)

@@ -86,6 +86,15 @@ unfoldable pub finish : ℕ → ℕ → ℤ → Fit → Outcome Unpublished Fix
 unfolding certain transmitPs
 finish mask dof reference fit = inverted mask dof reference fit (cholesky (fit .information) 4 (replicate 16 nought))
 
--- as the code tells it
-abbrev pub told : Finished → Outcome Unpublished Fix
-told r = cond (r .published) (gives (r .fix)) (fails (r .why))
+-- ---- as the code holds it
+
+-- what stands in the place of a fix where there is none
+abbrev pub nothing : Fix
+nothing =
+    let none = replicate 3 nought in
+    record { mask = 0; dof = 0; ecef = none; t = nought; position = record { «lat_deg» = nought; «lon_deg» = nought; «height_m» = nought }; «transmit_ps» = pos 0; r0 = none; r1 = none; r2 = none; chi2 = nought }
+
+-- no fix beside a refusal, and the last refusal beside a fix
+abbrev pub asFinished : Outcome Unpublished Fix → Finished
+asFinished (fails e) = record { published = false; why = e; fix = nothing }
+asFinished (gives x) = record { published = true; why = OutOfRange; fix = x }

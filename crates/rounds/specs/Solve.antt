@@ -22,7 +22,6 @@ use Rattle.best.specs.Best.{Outcome, fails}
 use Rattle.best.specs.OfProblem.{Receptions, receptionsOf, subset, subsetSites, subsetZ, whitenerOver, chosenOver, bestFitOver}
 use Rattle.record.specs.declared.content.Fix.{Fix}
 use Rattle.rounds.specs.declared.answer.Answer as code
-use Rattle.rounds.specs.declared.answer.Case.{Case}
 use Rattle.rounds.specs.declared.answer.Case.the-variants as case
 use Rattle.rounds.specs.declared.answer.Refusal.{Refusal}
 use Rattle.rounds.specs.declared.answer.Refusal.the-variants.{TooFew, NoConvergence, OutOfRange, Inconsistent, Singular, Ambiguous, Uncertain}
@@ -33,7 +32,7 @@ use Rattle.rounds.specs.declared.fitting.State.{State}
 use Rattle.rounds.specs.declared.outliers.Turn.{Turn}
 use Rattle.rounds.specs.declared.outliers.Turn.the-variants.{Ends, Changes, Settles}
 use Rattle.rounds.specs.Setting.{Answer, fix, refused, noFixedPoint, Setting}
-use Rattle.rounds.specs.Finish.{finish}
+use Rattle.rounds.specs.Finish.{finish, nothing}
 use Rattle.rounds.specs.Rounds.{Step, ends, changes, settles, solved}
 
 abbrev pub hasAltitude : Altitude → Bool
@@ -96,13 +95,11 @@ stepOf (Ends why) f = ends why
 stepOf (Changes mask) f = changes (has mask) f
 stepOf Settles f = settles f
 
-abbrev pub answerOf : Case → Fix → Answer Fix
-answerOf case.Fix x = fix x
-answerOf (case.Refused why) x = refused why
-answerOf case.NoFixedPoint x = noFixedPoint
-
-abbrev pub told : code.Answer → Answer Fix
-told r = answerOf (r .case) (r .fix)
+-- an answer: no fix beside a refusal
+abbrev pub asAnswer : Answer Fix → code.Answer
+asAnswer (fix x) = record { case = case.Fix; fix = x }
+asAnswer (refused why) = record { case = case.Refused why; fix = nothing }
+asAnswer noFixedPoint = record { case = case.NoFixedPoint; fix = nothing }
 
 -- ---- document 01's numbers and details
 abbrev pub refusalNumber : Refusal → ℕ

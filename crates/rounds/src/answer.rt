@@ -1,9 +1,12 @@
 // The answers of document 01.
 ghost use mathlib.Core.Path.{_≡_};
+ghost use Rattle.best.specs.Best.{Outcome};
+ghost use Rattle.record.specs.declared.content.Fix as content;
+ghost use Rattle.rounds.specs.declared.finish.Unpublished as finish;
 ghost use Rattle.rounds.specs.Setting.{refused, noFixedPoint, ofUnfit, ofUnpublished};
 ghost use Rattle.rounds.specs.Rounds.{closed};
-ghost use Rattle.rounds.specs.Finish as finish;
-ghost use Rattle.rounds.specs.Solve.{told};
+ghost use Rattle.rounds.specs.Finish.{asFinished};
+ghost use Rattle.rounds.specs.Solve.{asAnswer};
 use crate::finish::Finished;
 use crate::finish::Unpublished;
 use crate::finish::nothing;
@@ -35,7 +38,7 @@ pub struct Answer {
 }
 
 pub fn refused(why: Refusal) -> Answer
-    ensures { λ r. ⌜ told r ≡ refused why ⌝ }
+    ensures { λ r. ⌜ r ≡ asAnswer (refused why) ⌝ }
 {
     Answer {
         case: Case::Refused(why),
@@ -44,7 +47,7 @@ pub fn refused(why: Refusal) -> Answer
 }
 
 pub fn no_fixed_point() -> Answer
-    ensures { λ r. ⌜ told r ≡ noFixedPoint ⌝ }
+    ensures { λ r. ⌜ r ≡ asAnswer noFixedPoint ⌝ }
 {
     Answer {
         case: Case::NoFixedPoint,
@@ -78,7 +81,7 @@ fn of_unpublished(why: Unpublished) -> Refusal
 
 // The answer once the rounds are settled.
 pub fn of_finished(f: Finished) -> Answer
-    ensures { λ r. ⌜ told r ≡ closed (finish.told f) ⌝ }
+    ensures { λ r. ⌜ ((o : Outcome finish.Unpublished content.Fix) → f ≡ asFinished o → r ≡ asAnswer (closed o)) ⌝ }
 {
     if f.published {
         let fix = f.fix;

@@ -6,7 +6,7 @@ ghost use lib.ListN.{replicate};
 ghost use Rattle.binary64.specs.Steps.{nought};
 ghost use Rattle.limits.specs.Local.{published};
 ghost use Rattle.best.specs.Best.{fails};
-ghost use Rattle.rounds.specs.Finish.{wide, certain, told, fixOf, finish};
+ghost use Rattle.rounds.specs.Finish.{wide, certain, fixOf, finish, nothing, asFinished};
 use crate::moment::transmit;
 use damped::Fit;
 use record::Fix;
@@ -31,7 +31,7 @@ pub struct Finished {
 
 // What stands in the place of a fix where there is none: it uses no reception.
 pub fn nothing() -> Fix
-    ensures { λ r. ⌜ r .mask ≡ 0 ⌝ }
+    ensures { λ r. ⌜ r ≡ nothing ⌝ }
 {
     Fix {
         mask: 0,
@@ -52,7 +52,7 @@ pub fn nothing() -> Fix
 }
 
 pub fn withheld(why: Unpublished) -> Finished
-    ensures { λ r. ⌜ told r ≡ fails why ⌝ }
+    ensures { λ r. ⌜ r ≡ asFinished (fails why) ⌝ }
 {
     Finished {
         published: false,
@@ -137,7 +137,7 @@ fn fix_of(mask: u32, dof: u32, fit: Fit, c: [[f64; 3]; 3], transmit_ps: i64) -> 
 
 // The fix of the receptions in the mask, with so many degrees of freedom, or why it is not published.
 pub fn finish(mask: u32, dof: u32, reference_ps: i64, fit: Fit) -> Finished
-    ensures { λ r. ⌜ told r ≡ finish mask dof «reference_ps» fit ⌝ }
+    ensures { λ r. ⌜ r ≡ asFinished (finish mask dof «reference_ps» fit) ⌝ }
 {
     let information = fit.information;
     let params = fit.params;

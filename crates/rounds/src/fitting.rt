@@ -2,7 +2,7 @@
 ghost use mathlib.Core.Path.{_≡_};
 ghost use Prim.Native.Nat.{_≤_};
 ghost use Rattle.sets.specs.Mask.{has};
-ghost use Rattle.best.specs.Best as best;
+ghost use Rattle.best.specs.Best.{asBest};
 ghost use Rattle.best.specs.OfProblem.{receptions, bestFitOver};
 ghost use Rattle.rounds.specs.Solve.{gathered, before};
 use best::Best;
@@ -53,7 +53,7 @@ pub fn fit_included(
     state: State,
 ) -> Best
     requires { ⌜ n ≤ 32 ⌝ }
-    ensures { λ r. ⌜ best.told r ≡ bestFitOver (receptions (now (site .entry)) (now (z .entry)) (now (noise .entry)) (now (clock .entry)) n altitude) (has (state .included)) (before state) ⌝ }
+    ensures { λ r. ⌜ r ≡ asBest (bestFitOver (receptions (now (site .entry)) (now (z .entry)) (now (noise .entry)) (now (clock .entry)) n altitude) (has (state .included)) (before state)) ⌝ }
 {
     let included = state.included;
     let had = state.had;

@@ -11,14 +11,15 @@ pub use answer::Answer;
 pub use answer::Case;
 pub use answer::Refusal;
 ghost use mathlib.Core.Path.{_≡_};
-ghost use mathlib.Core.Bool.{Bool};
-ghost use mathlib.Core.Option.{none, some};
+ghost use mathlib.Core.Bool.{Bool, true, false};
 ghost use Prim.Native.Nat.{ℕ, _≤_, _<_, _^_};
+ghost use lib.ListN.{replicate};
+ghost use Rattle.binary64.specs.Steps.{nought};
 ghost use Rattle.sets.specs.Mask.{has};
 ghost use Rattle.screen.specs.Screen as screen;
 ghost use Rattle.best.specs.OfProblem.{receptions};
 ghost use Rattle.rounds.specs.Rounds.{solved};
-ghost use Rattle.rounds.specs.Solve.{settingOf, solveProblem, before, told};
+ghost use Rattle.rounds.specs.Solve.{settingOf, solveProblem, asAnswer};
 use answer::no_fixed_point;
 use answer::of_finished;
 use answer::refused;
@@ -32,7 +33,7 @@ use settled::settled;
 
 // The rounds start with all kept receptions, and no round before.
 fn first(kept: u32) -> State
-    ensures { λ r. ⌜ (r .included ≡ kept) × (before r ≡ none) ⌝ }
+    ensures { λ r. ⌜ r ≡ record { included = kept; had = false; previous = replicate 4 nought } ⌝ }
 {
     let previous = [0.0; 4];
     State {
@@ -44,7 +45,7 @@ fn first(kept: u32) -> State
 
 // The rounds go on with the included receptions, after one with this fit.
 fn changed(included: u32, fit: Fit) -> State
-    ensures { λ r. ⌜ (r .included ≡ included) × (before r ≡ some (fit .params)) ⌝ }
+    ensures { λ r. ⌜ r ≡ record { included = included; had = true; previous = fit .params } ⌝ }
 {
     let previous = fit.params;
     State {
@@ -66,7 +67,7 @@ fn outlier_rounds(
     kept: u32,
 ) -> Answer
     requires { ⌜ (n ≤ 32) × (kept < 2 ^ n) ⌝ }
-    ensures { λ r. ⌜ ((fails : ℕ → ℕ → Bool) → has kept ≡ screen.kept n fails → told r ≡ solved (settingOf (receptions (now (site .entry)) (now (z .entry)) (now (noise .entry)) (now (clock .entry)) n altitude) fails reference)) ⌝ }
+    ensures { λ r. ⌜ ((fails : ℕ → ℕ → Bool) → has kept ≡ screen.kept n fails → r ≡ asAnswer (solved (settingOf (receptions (now (site .entry)) (now (z .entry)) (now (noise .entry)) (now (clock .entry)) n altitude) fails reference))) ⌝ }
 {
     let rounds = 2 * sets::count(kept) + 2;
     let mut state = first(kept);
@@ -97,7 +98,7 @@ fn outlier_rounds(
 // Solves one transmission's problem.
 pub fn solve_problem(p: Problem) -> Answer
     requires { ⌜ p .n ≤ 32 ⌝ }
-    ensures { λ r. ⌜ told r ≡ solveProblem p ⌝ }
+    ensures { λ r. ⌜ r ≡ asAnswer (solveProblem p) ⌝ }
 {
     let n = p.n;
     let altitude = p.altitude;

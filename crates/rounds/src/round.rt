@@ -5,6 +5,7 @@ ghost use Prim.Native.Nat.{ℕ, _≤_, _<_, _^_};
 ghost use lib.IntN.{ℤ};
 ghost use Rattle.sets.specs.Mask.{has};
 ghost use Rattle.screen.specs.Screen as screen;
+ghost use Rattle.damped.specs.Damped.{unfitted};
 ghost use Rattle.best.specs.OfProblem.{receptions};
 ghost use Rattle.rounds.specs.Rounds as rounds;
 ghost use Rattle.rounds.specs.declared.outliers.Turn.the-variants.{Ends, Changes};
@@ -27,7 +28,7 @@ pub struct Step {
 
 // A round that a refusal ends before there is a best fit.
 fn ended(why: Refusal) -> Step
-    ensures { λ r. ⌜ r .turn ≡ Ends why ⌝ }
+    ensures { λ r. ⌜ r ≡ record { turn = Ends why; fit = unfitted } ⌝ }
 {
     let params = [0.0; 4];
     let information = [0.0; 16];

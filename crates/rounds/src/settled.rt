@@ -5,7 +5,7 @@ ghost use Rattle.sets.specs.Sets.{count};
 ghost use Rattle.sets.specs.Mask.{has};
 ghost use Rattle.whitening.specs.Whitened.{chosen};
 ghost use Rattle.limits.specs.Limits as limits;
-ghost use Rattle.rounds.specs.Finish.{told};
+ghost use Rattle.rounds.specs.Finish.{asFinished};
 ghost use Rattle.best.specs.OfProblem.{receptions};
 ghost use Rattle.rounds.specs.Solve.{hasAltitude, limitAt, later};
 use crate::finish::Finished;
@@ -94,7 +94,7 @@ pub fn settled(
     fit: Fit,
 ) -> Finished
     requires { ⌜ (n ≤ 32) × (included < 2 ^ n) ⌝ }
-    ensures { λ r. ⌜ told r ≡ later (receptions (now (site .entry)) (now (z .entry)) (now (noise .entry)) (now (clock .entry)) n altitude) «reference_ps» (has included) fit ⌝ }
+    ensures { λ r. ⌜ r ≡ asFinished (later (receptions (now (site .entry)) (now (z .entry)) (now (noise .entry)) (now (clock .entry)) n altitude) «reference_ps» (has included) fit) ⌝ }
 {
     let used = subset(site, z, n, included);
     let k = used.k;

@@ -1,7 +1,8 @@
 -- `best::best_fit` meets its contract. The whitener is asked first; then the fits are the definition's, and what they come to is its answer (proofs/Judging.antt). Assumes nothing.
 use borrow.Author.Needs.{needs}
+use mathlib.Core.Path.{ap, _∙_}
 use lib.ListN.{take}
-use Rattle.best.specs.Best.{told, pointsTo}
+use Rattle.best.specs.Best.{asBest, pointsTo}
 use Rattle.best.proofs.Judging.{whitened-found, whitened-refused}
 use Rattle.best.proofs.best_fit.Statement.{statement}
 use Rattle.best.proofs.best_fit.Tie as tie
@@ -20,7 +21,7 @@ returns c =
     let s = c .before .before .before .before .before .before .before .args in
     let w = c .before .before .before .before .before .whitener in
     let made = c .before .fits2 in
-    whitened-found (s .clock-m2 .now) (s .n) (s .noise-m2 .now) (s .index .now) (s .sites .now) (s .z .now) (s .k) (s .altitude) (pointsTo (s .at .now) (s .count)) (w .result) _ (w .ensures) (told (c .judged .result)) (c .before .before .before .before .if1 .taken) (take (s .count) (made .result)) (made .ensures .1) (c .judged .ensures)
+    c .judged .ensures ∙ ap asBest (whitened-found (s .clock-m2 .now) (s .n) (s .noise-m2 .now) (s .index .now) (s .sites .now) (s .z .now) (s .k) (s .altitude) (pointsTo (s .at .now) (s .count)) (w .result) _ (w .ensures) (c .before .before .before .before .if1 .taken) (take (s .count) (made .result)) (made .ensures .1))
 
 refused-requires : tie.Need-refused-requires
 refused-requires c κs = search needs
@@ -29,7 +30,7 @@ returns-2 : tie.Need-returns-2
 returns-2 c =
     let s = c .before .before .before .before .args in
     let w = c .before .before .whitener in
-    whitened-refused (s .clock-m2 .now) (s .n) (s .noise-m2 .now) (s .index .now) (s .sites .now) (s .z .now) (s .k) (s .altitude) (pointsTo (s .at .now) (s .count)) (w .result) _ (w .ensures) (told (c .refused .result)) (c .before .if1 .left) (c .refused .ensures)
+    c .refused .ensures ∙ ap asBest (whitened-refused (s .clock-m2 .now) (s .n) (s .noise-m2 .now) (s .index .now) (s .sites .now) (s .z .now) (s .k) (s .altitude) (pointsTo (s .at .now) (s .count)) (w .result) _ (w .ensures) (c .before .if1 .left))
 
 pub best-fit-spec : {M : Type 1} → statement M
 best-fit-spec =

@@ -1,6 +1,6 @@
 -- `best::judged` meets its contract. The index of the best is the definition's choice, and each answer is what is made of it (proofs/Judging.antt). Assumes nothing.
 use borrow.Author.Needs.{needs}
-use mathlib.Core.Path.{_≡_, sym, _∙_}
+use mathlib.Core.Path.{_≡_, sym, ap, _∙_}
 use mathlib.Core.List.{List}
 use Prim.Native.Nat.{_<_}
 use native.Mathlib.Omega.{arith}
@@ -8,7 +8,7 @@ use lib.ListN.{length, take}
 use lib.Seq.{length-take-le, getD-take}
 use Rattle.sets.specs.Mask.{has}
 use Rattle.damped.specs.declared.Fit.{Fit}
-use Rattle.best.specs.Best.{fitAt}
+use Rattle.best.specs.Best.{asBest, fitAt}
 use Rattle.best.proofs.Passes.{nothing}
 use Rattle.best.proofs.Judging.{Held, below, ambiguous, alone, out-of-range, no-convergence}
 use Rattle.best.proofs.judged.Statement.{statement}
@@ -50,13 +50,13 @@ returns : tie.Need-returns
 returns c =
     let m = c .before .before .before .before .before in
     let h = c .before .before .before .before .if1 .taken in
-    c .refused .ensures ∙ ambiguous (held m) (c .before .before .rivalled .result) h (fitAt (m .before .before .args .t3) (m .best-of .result)) (same m h) (c .before .before .rivalled .ensures) (c .before .if2 .taken)
+    c .refused .ensures ∙ ap asBest (ambiguous (held m) (c .before .before .rivalled .result) h (fitAt (m .before .before .args .t3) (m .best-of .result)) (same m h) (c .before .before .rivalled .ensures) (c .before .if2 .taken))
 
 returns-2 : tie.Need-returns-2
 returns-2 c =
     let m = c .before .before .before .before in
     let h = c .before .before .before .if1 .taken in
-    alone (held m) (c .before .rivalled .result) h (fitAt (m .before .before .args .t3) (m .best-of .result)) (same m h) (c .before .rivalled .ensures) (c .if2 .left)
+    ap asBest (alone (held m) (c .before .rivalled .result) h (fitAt (m .before .before .args .t3) (m .best-of .result)) (same m h) (c .before .rivalled .ensures) (c .if2 .left))
 
 converged-requires : tie.Need-converged-requires
 converged-requires c κs = search needs
@@ -65,13 +65,13 @@ refused-requires-2 : tie.Need-refused-requires-2
 refused-requires-2 c κs = search needs
 
 returns-3 : tie.Need-returns-3
-returns-3 c = c .refused2 .ensures ∙ out-of-range (held (c .before .before .before .before)) (c .before .before .converged .result) (c .before .before .before .if1 .left) (c .before .before .converged .ensures) (c .before .if3 .taken)
+returns-3 c = c .refused2 .ensures ∙ ap asBest (out-of-range (held (c .before .before .before .before)) (c .before .before .converged .result) (c .before .before .before .if1 .left) (c .before .before .converged .ensures) (c .before .if3 .taken))
 
 refused-requires-3 : tie.Need-refused-requires-3
 refused-requires-3 c κs = search needs
 
 returns-4 : tie.Need-returns-4
-returns-4 c = c .refused3 .ensures ∙ no-convergence (held (c .before .before .before .before)) (c .before .before .converged .result) (c .before .before .before .if1 .left) (c .before .before .converged .ensures) (c .before .if3 .left)
+returns-4 c = c .refused3 .ensures ∙ ap asBest (no-convergence (held (c .before .before .before .before)) (c .before .before .converged .result) (c .before .before .before .if1 .left) (c .before .before .converged .ensures) (c .before .if3 .left))
 
 pub judged-spec : {M : Type 1} → statement M
 judged-spec =

@@ -8,6 +8,7 @@ use Rattle.inputs.specs.declared.Check.{Check}
 use Rattle.inputs.specs.declared.Check.the-variants.{Passed}
 use Rattle.inputs.specs.Inputs.{Inputs, inputsOf, checkInputs}
 use Rattle.inputs.proofs.Order.{few}
+use Rattle.rounds.specs.Solve.{solveProblem}
 use Rattle.entry.specs.Reply.{reply}
 use Rattle.entry.proofs.Replies.{is-passed, many-away, came-whole, torn-or-whole, refused-reply, problem-reply}
 use Rattle.entry.proofs.reply_to.Statement.{statement}
@@ -52,7 +53,7 @@ returns c =
 
 returns-2 : tie.Need-returns-2
 returns-2 c =
-    problem-reply (lent ((c .before .before .before .before .before .before .before .before .before .before)) (c .before .before .before .before .before .before .given .result)) (c .before .before .before .before .before .check-inputs .result) (c .before .before .before .before .before .check-inputs .ensures) (c .answered .result) (c .before .before .problem-of .result) _ (is-passed (c .before .before .before .before .before .check-inputs .result) (c .before .before .before .before .match .keys2)) (c .before .before .problem-of .ensures .0 ∙ torn-or-whole (lent ((c .before .before .before .before .before .before .before .before .before .before)) (c .before .before .before .before .before .before .given .result))) (c .before .solve-problem .ensures) (c .answered .ensures)
+    problem-reply (lent ((c .before .before .before .before .before .before .before .before .before .before)) (c .before .before .before .before .before .before .given .result)) (c .before .before .before .before .before .check-inputs .result) (c .before .before .before .before .before .check-inputs .ensures) (c .answered .result) (c .before .before .problem-of .result) (is-passed (c .before .before .before .before .before .check-inputs .result) (c .before .before .before .before .match .keys2)) (c .before .before .problem-of .ensures .0 ∙ torn-or-whole (lent ((c .before .before .before .before .before .before .before .before .before .before)) (c .before .before .before .before .before .before .given .result))) (c .answered .ensures (solveProblem (c .before .before .problem-of .result)) (c .before .solve-problem .ensures))
     ∙ ap (λ (g : Given). reply (lent ((c .before .before .before .before .before .before .before .before .before .before)) g)) (c .before .before .before .before .before .before .given .ensures)
 
 pub reply-to-spec : {M : Type 1} → statement M

@@ -11,7 +11,8 @@ use Rattle.sets.specs.Mask.{has}
 use Rattle.sets.proofs.Counting.{count-le}
 use Rattle.screen.specs.Screen as screen
 use Rattle.best.specs.OfProblem.{Receptions, receptions}
-use Rattle.rounds.specs.Rounds.{closed}
+use Rattle.rounds.specs.declared.fitting.State.{State}
+use Rattle.rounds.specs.Solve.{later, asAnswer}
 use Rattle.rounds.proofs.Runs.{Left, left-start, left-ends, left-settles, left-changes, left-never}
 use Rattle.rounds.proofs.outlier_rounds.Statement.{statement}
 use Rattle.rounds.proofs.outlier_rounds.Tie as tie
@@ -38,7 +39,7 @@ first-requires : tie.Need-first-requires Inv-loop μ-loop
 first-requires c κs = search needs
 
 loop-holds : tie.Need-loop-holds Inv-loop μ-loop
-loop-holds c = (omega arith, subst (λ (m : ℕ). m < 2 ^ c .before .before .args .n) (sym (c .first .ensures .0)) (c .before .before .pre .1), λ bad ref e l. left-start (heard (c .before .before)) bad ref l (c .first .result) (c .before .before .args .kept) (c .before .count .result) (c .first .ensures .0) (c .first .ensures .1) e (c .before .before .pre .1) (c .before .count .ensures))
+loop-holds c = (omega arith, subst (λ (s : State). s .included < 2 ^ c .before .before .args .n) (sym (c .first .ensures)) (c .before .before .pre .1), λ bad ref e l. left-start (heard (c .before .before)) bad ref l (c .first .result) (c .before .before .args .kept) (c .before .count .result) (c .first .ensures) e (c .before .before .pre .1) (c .before .count .ensures))
 
 round-requires : tie.Need-round-requires Inv-loop μ-loop
 round-requires c κs = (c .before .before .before .before .pre .0, c .before .loop .inv .1)
@@ -54,7 +55,7 @@ returns c = λ bad e.
     let s = c .before .before .before .before .before .before .before .before .before .before in
     let at = c .before .before .before .before .before .before .before .loop in
     let made = c .before .before .before .before .before .round in
-    c .refused .ensures ∙ left-ends (heard s) bad (s .args .reference) (s .pre .0) (at .k) (2 * c .before .before .before .before .before .before .before .before .before .count .result + 2) (at .state) (made .result .turn) (made .result .fit) (made .ensures .0 bad (s .args .reference) e) (c .before .before .before .before .before .before .loop-test .taken) (at .inv .2 bad (s .args .reference) e (s .pre .0)) _ (c .before .before .turn .given .1)
+    c .refused .ensures ∙ ap asAnswer (left-ends (heard s) bad (s .args .reference) (s .pre .0) (at .k) (2 * c .before .before .before .before .before .before .before .before .before .count .result + 2) (at .state) (made .result .turn) (made .result .fit) (made .ensures .0 bad (s .args .reference) e) (c .before .before .before .before .before .before .loop-test .taken) (at .inv .2 bad (s .args .reference) e (s .pre .0)) _ (c .before .before .turn .given .1))
 
 enum-known-turn-2 : tie.Need-enum-known-turn-2 Inv-loop μ-loop
 enum-known-turn-2 c = search needs
@@ -76,8 +77,8 @@ loop-again c =
     let is = c .before .before .turn2 .given .1 in
     let next = c .changed in (
       omega arith,
-      subst (λ (m : ℕ). m < 2 ^ s .args .n) (sym (next .ensures .0)) (made .ensures .1 _ is),
-      λ bad ref e l. left-changes (heard s) bad ref l (at .k) (2 * c .before .before .before .before .before .before .before .before .before .count .result + 2) (at .state) (made .result .turn) (made .result .fit) (made .ensures .0 bad ref e) (c .before .before .before .before .before .before .loop-test .taken) (at .inv .2 bad ref e l) _ is (next .result) (next .ensures .0) (next .ensures .1),
+      subst (λ (u : State). u .included < 2 ^ s .args .n) (sym (next .ensures)) (made .ensures .1 _ is),
+      λ bad ref e l. left-changes (heard s) bad ref l (at .k) (2 * c .before .before .before .before .before .before .before .before .before .count .result + 2) (at .state) (made .result .turn) (made .result .fit) (made .ensures .0 bad ref e) (c .before .before .before .before .before .before .loop-test .taken) (at .inv .2 bad ref e l) _ is (next .result) (next .ensures),
     )
 
 enum-told : tie.Need-enum-told Inv-loop μ-loop
@@ -94,8 +95,8 @@ returns-2 c = λ bad e.
     let s = c .before .before .before .before .before .before .before .before .before .before in
     let at = c .before .before .before .before .before .before .before .loop in
     let made = c .before .before .before .before .before .round in
-    c .of-finished .ensures ∙ ap closed (rw (toZ-ofZ w64 (s .args .reference) (s .fits .reference)) at (c .before .settled .ensures))
-    ∙ left-settles (heard s) bad (s .args .reference) (s .pre .0) (at .k) (2 * c .before .before .before .before .before .before .before .before .before .count .result + 2) (at .state) (made .result .turn) (made .result .fit) (made .ensures .0 bad (s .args .reference) e) (c .before .before .before .before .before .before .loop-test .taken) (at .inv .2 bad (s .args .reference) e (s .pre .0)) (c .before .before .enum-told .given .1)
+    c .of-finished .ensures (later (heard s) (s .args .reference) (has (at .state .included)) (made .result .fit)) (rw (toZ-ofZ w64 (s .args .reference) (s .fits .reference)) at (c .before .settled .ensures))
+    ∙ ap asAnswer (left-settles (heard s) bad (s .args .reference) (s .pre .0) (at .k) (2 * c .before .before .before .before .before .before .before .before .before .count .result + 2) (at .state) (made .result .turn) (made .result .fit) (made .ensures .0 bad (s .args .reference) e) (c .before .before .before .before .before .before .loop-test .taken) (at .inv .2 bad (s .args .reference) e (s .pre .0)) (c .before .before .enum-told .given .1))
 
 no-fixed-point-requires : tie.Need-no-fixed-point-requires Inv-loop μ-loop
 no-fixed-point-requires c κs = search needs
@@ -104,7 +105,7 @@ returns-3 : tie.Need-returns-3 Inv-loop μ-loop
 returns-3 c = λ bad e.
     let s = c .before .before .before .before .before in
     let at = c .before .before .loop in
-    c .no-fixed-point .ensures ∙ left-never (heard s) bad (s .args .reference) (s .pre .0) (at .k) (2 * c .before .before .before .before .count .result + 2) (at .state) (c .before .loop-test .left) (at .inv .2 bad (s .args .reference) e (s .pre .0))
+    c .no-fixed-point .ensures ∙ ap asAnswer (left-never (heard s) bad (s .args .reference) (s .pre .0) (at .k) (2 * c .before .before .before .before .count .result + 2) (at .state) (c .before .loop-test .left) (at .inv .2 bad (s .args .reference) e (s .pre .0)))
 
 pub outlier-rounds-spec : {M : Type 1} → statement M
 outlier-rounds-spec =

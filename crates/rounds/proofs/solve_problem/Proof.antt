@@ -1,10 +1,11 @@
 -- `rounds::solve_problem` meets its contract. The rounds start from what the screen keeps. Assumes nothing.
 use borrow.Author.Needs.{needs}
-use mathlib.Core.Path.{_∙_}
+use mathlib.Core.Path.{ap, _∙_}
 use mir.Syntax.{w64}
 use mir.Val.{toZ, ofZ}
 use mir.ValLaws.{toZ-ofZ}
 use Rattle.screen.specs.Pair.{fails}
+use Rattle.rounds.specs.Solve.{asAnswer}
 use Rattle.rounds.proofs.Runs.{of-problem}
 use Rattle.rounds.proofs.solve_problem.Statement.{statement}
 use Rattle.rounds.proofs.solve_problem.Tie as tie
@@ -19,7 +20,7 @@ returns : tie.Need-returns
 returns c =
     let p = c .before .before .before .before .before .before .before .before .before .before .before .before .before .before .before .args .p in
     c .outlier-rounds .ensures (fails (p .time) (p .«site_mm») (p .n)) (c .before .before .before .before .before .screen .ensures .0)
-    ∙ of-problem p (toZ w64 (ofZ w64 (p .«reference_ps»))) (toZ-ofZ w64 (p .«reference_ps») (record { sfits = c .before .before .before .before .before .before .before .before .before .before .before .before .before .before .struct-told .given .1 .1 .1 .1 .1 .1 .1 .1 .0 .1 }))
+    ∙ ap asAnswer (of-problem p (toZ w64 (ofZ w64 (p .«reference_ps»))) (toZ-ofZ w64 (p .«reference_ps») (record { sfits = c .before .before .before .before .before .before .before .before .before .before .before .before .before .before .struct-told .given .1 .1 .1 .1 .1 .1 .1 .1 .0 .1 })))
 
 pub solve-problem-spec : {M : Type 1} → statement M
 solve-problem-spec =

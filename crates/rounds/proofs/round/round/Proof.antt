@@ -1,12 +1,12 @@
 -- `rounds::round::round` meets its contract. Each test picks the definition's case (Turns.antt). Assumes nothing.
 use borrow.Author.Needs.{needs}
-use mathlib.Core.Path.{_≡_, ap, _∙_}
+use mathlib.Core.Path.{_≡_, sym, ap, _∙_}
 use Prim.Native.Nat.{ℕ}
 use native.Mathlib.Omega.{arith}
 use Rattle.best.specs.OfProblem.{Receptions, receptions}
 use Rattle.rounds.specs.declared.answer.Refusal.{Refusal}
-use Rattle.rounds.specs.declared.outliers.Turn.{Turn}
 use Rattle.rounds.specs.declared.outliers.Turn.the-variants.{Ends, Changes}
+use Rattle.rounds.specs.declared.round.Step.{Step}
 use Rattle.rounds.specs.Rounds.{ends}
 use Rattle.rounds.specs.Solve.{before, stepOf}
 use Rattle.rounds.proofs.Turns.{round-few, round-unfit, round-fitted}
@@ -17,8 +17,8 @@ abbrev heard : tie.Start → Receptions
 heard s = receptions (s .args .site .now) (s .args .z .now) (s .args .noise .now) (s .args .clock .now) (s .args .n) (s .args .altitude)
 
 -- a round that ends makes no change
-no-change : (t : Turn) (why : Refusal) → t ≡ Ends why → (m : ℕ) → t ≡ Changes m → ⊥
-no-change t why e m q = let z : _≡_ {A = ℕ} 0 1 = cc in omega arith
+no-change : (why : Refusal) (m : ℕ) → Ends why ≡ Changes m → ⊥
+no-change why m q = let z : _≡_ {A = ℕ} 0 1 = cc in omega arith
 
 count-requires : tie.Need-count-requires
 count-requires c κs = search needs
@@ -33,8 +33,8 @@ returns : tie.Need-returns
 returns c =
     let s = c .before .before .before .before in
     let n = c .before .before .before .count in (
-      λ bad reference h. ap (λ (t : Turn). stepOf t (c .ended .result .fit)) (c .ended .ensures) ∙ round-few (heard s) bad reference (s .pre .0) (s .args .state .included) (s .pre .1) (before (s .args .state)) (n .result) (n .ensures) (rw (c .before .before .minimum .ensures) at (c .before .if1 .taken)),
-      λ m q. absurd (no-change (c .ended .result .turn) _ (c .ended .ensures) m q),
+      λ bad reference h. ap (λ (x : Step). stepOf (x .turn) (x .fit)) (c .ended .ensures) ∙ round-few (heard s) bad reference (s .pre .0) (s .args .state .included) (s .pre .1) (before (s .args .state)) (n .result) (n .ensures) (rw (c .before .before .minimum .ensures) at (c .before .if1 .taken)),
+      λ m q. absurd (no-change _ m (ap (λ (x : Step). x .turn) (sym (c .ended .ensures)) ∙ q)),
     )
 
 fit-included-requires : tie.Need-fit-included-requires
@@ -66,8 +66,8 @@ returns-3 c =
     let s = c .before .before .before .before .before .before .before in
     let n = c .before .before .before .before .before .before .count in
     let best = c .before .before .before .fit-included in (
-      λ bad reference h. ap (λ (t : Turn). stepOf t (c .ended2 .result .fit)) (c .ended2 .ensures) ∙ ap ends (c .before .of-unfit .ensures) ∙ round-unfit (heard s) bad reference (s .pre .0) (s .args .state .included) (s .pre .1) (before (s .args .state)) (n .result) (n .ensures) (rw (c .before .before .before .before .before .minimum .ensures) at (c .before .before .before .before .if1 .left)) (best .result) (best .ensures) (c .before .before .if2 .left),
-      λ m q. absurd (no-change (c .ended2 .result .turn) _ (c .ended2 .ensures) m q),
+      λ bad reference h. ap (λ (x : Step). stepOf (x .turn) (x .fit)) (c .ended2 .ensures) ∙ ap ends (c .before .of-unfit .ensures) ∙ round-unfit (heard s) bad reference (s .pre .0) (s .args .state .included) (s .pre .1) (before (s .args .state)) (n .result) (n .ensures) (rw (c .before .before .before .before .before .minimum .ensures) at (c .before .before .before .before .if1 .left)) (best .result) (best .ensures) (c .before .before .if2 .left),
+      λ m q. absurd (no-change _ m (ap (λ (x : Step). x .turn) (sym (c .ended2 .ensures)) ∙ q)),
     )
 
 pub round-spec : {M : Type 1} → statement M

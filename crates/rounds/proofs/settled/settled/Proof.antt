@@ -1,10 +1,11 @@
 -- `rounds::settled::settled` meets its contract. Each test picks the definition's case, in the same order (Late.antt). Assumes nothing.
 use borrow.Author.Needs.{needs}
-use mathlib.Core.Path.{_∙_}
+use mathlib.Core.Path.{ap, _∙_}
 use mir.Syntax.{w64}
 use mir.ValLaws.{toZ-ofZ}
 use Rattle.sets.specs.Mask.{has}
 use Rattle.best.specs.OfProblem.{Receptions, receptions}
+use Rattle.rounds.specs.Finish.{asFinished}
 use Rattle.rounds.proofs.Gathering.{subset-fits}
 use Rattle.rounds.proofs.Late.{late-singular, late-inconsistent, late-finish}
 use Rattle.rounds.proofs.settled.settled.Statement.{statement}
@@ -36,7 +37,7 @@ withheld-requires c κs = search needs
 returns : tie.Need-returns
 returns c =
     let s = c .before .before .before .before .before .before .before .before .before .before .before .before .before .before .before .before .before .before in
-    c .withheld .ensures ∙ late-inconsistent (heard s) (s .args .reference-ps) (s .args .included) (s .pre .1) (s .pre .0) (s .args .fit) (c .before .before .before .before .before .before .before .before .before .before .before .before .before .before .before .before .before .subset .result) (c .before .before .before .before .before .before .before .before .before .before .before .before .before .before .before .before .before .subset .ensures) _ (rw (c .before .before .before .before .before .before .before .before .before .before .if1 .taken) at (c .before .before .before .before .before .before .before .before .before .before .before .whitener .ensures)) (c .before .before .before .before .before .before .before .before .before .dof .result) (c .before .before .before .before .before .before .before .before .before .dof .ensures) (c .before .before .before .limit .result) (c .before .before .before .limit .ensures) (c .before .if2 .taken)
+    c .withheld .ensures ∙ ap asFinished (late-inconsistent (heard s) (s .args .reference-ps) (s .args .included) (s .pre .1) (s .pre .0) (s .args .fit) (c .before .before .before .before .before .before .before .before .before .before .before .before .before .before .before .before .before .subset .result) (c .before .before .before .before .before .before .before .before .before .before .before .before .before .before .before .before .before .subset .ensures) _ (rw (c .before .before .before .before .before .before .before .before .before .before .if1 .taken) at (c .before .before .before .before .before .before .before .before .before .before .before .whitener .ensures)) (c .before .before .before .before .before .before .before .before .before .dof .result) (c .before .before .before .before .before .before .before .before .before .dof .ensures) (c .before .before .before .limit .result) (c .before .before .before .limit .ensures) (c .before .if2 .taken))
 
 finish-requires : tie.Need-finish-requires
 finish-requires c κs = search needs
@@ -44,7 +45,7 @@ finish-requires c κs = search needs
 returns-2 : tie.Need-returns-2
 returns-2 c =
     let s = c .before .before .before .before .before .before .before .before .before .before .before .before .before .before .before .before .before .before in
-    (rw (toZ-ofZ w64 (s .args .reference-ps) (s .fits .reference-ps)) at (c .finish .ensures)) ∙ late-finish (heard s) (s .args .reference-ps) (s .args .included) (s .pre .1) (s .pre .0) (s .args .fit) (c .before .before .before .before .before .before .before .before .before .before .before .before .before .before .before .before .before .subset .result) (c .before .before .before .before .before .before .before .before .before .before .before .before .before .before .before .before .before .subset .ensures) _ (rw (c .before .before .before .before .before .before .before .before .before .before .if1 .taken) at (c .before .before .before .before .before .before .before .before .before .before .before .whitener .ensures)) (c .before .before .before .before .before .before .before .before .before .dof .result) (c .before .before .before .before .before .before .before .before .before .dof .ensures) (c .before .before .before .limit .result) (c .before .before .before .limit .ensures) (c .before .if2 .left)
+    (rw (toZ-ofZ w64 (s .args .reference-ps) (s .fits .reference-ps)) at (c .finish .ensures)) ∙ ap asFinished (late-finish (heard s) (s .args .reference-ps) (s .args .included) (s .pre .1) (s .pre .0) (s .args .fit) (c .before .before .before .before .before .before .before .before .before .before .before .before .before .before .before .before .before .subset .result) (c .before .before .before .before .before .before .before .before .before .before .before .before .before .before .before .before .before .subset .ensures) _ (rw (c .before .before .before .before .before .before .before .before .before .before .if1 .taken) at (c .before .before .before .before .before .before .before .before .before .before .before .whitener .ensures)) (c .before .before .before .before .before .before .before .before .before .dof .result) (c .before .before .before .before .before .before .before .before .before .dof .ensures) (c .before .before .before .limit .result) (c .before .before .before .limit .ensures) (c .before .if2 .left))
 
 withheld-requires-2 : tie.Need-withheld-requires-2
 withheld-requires-2 c κs = search needs
@@ -52,7 +53,7 @@ withheld-requires-2 c κs = search needs
 returns-3 : tie.Need-returns-3
 returns-3 c =
     let s = c .before .before .before .before .before .before .before .before .before in
-    c .withheld2 .ensures ∙ late-singular (heard s) (s .args .reference-ps) (s .args .included) (s .pre .1) (s .pre .0) (s .args .fit) (c .before .before .before .before .before .before .before .before .subset .result) (c .before .before .before .before .before .before .before .before .subset .ensures) _ (rw (c .before .if1 .left) at (c .before .before .whitener .ensures))
+    c .withheld2 .ensures ∙ ap asFinished (late-singular (heard s) (s .args .reference-ps) (s .args .included) (s .pre .1) (s .pre .0) (s .args .fit) (c .before .before .before .before .before .before .before .before .subset .result) (c .before .before .before .before .before .before .before .before .subset .ensures) _ (rw (c .before .if1 .left) at (c .before .before .whitener .ensures)))
 
 pub settled-spec : {M : Type 1} → statement M
 settled-spec =

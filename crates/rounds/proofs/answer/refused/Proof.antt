@@ -1,0 +1,17 @@
+-- `answer::refused` meets its contract: beside the refusal stands no fix. Assumes nothing.
+use borrow.Author.Needs.{needs}
+use Rattle.rounds.proofs.answer.refused.Statement.{statement}
+use Rattle.rounds.proofs.answer.refused.Tie as tie
+
+nothing-requires : tie.Need-nothing-requires
+nothing-requires c κs = search needs
+
+returns : tie.Need-returns
+returns c = rw (c .nothing .ensures)
+
+pub refused-spec : {M : Type 1} → statement M
+refused-spec =
+    tie.close
+    (tie.spec
+    nothing-requires
+    returns)
