@@ -6,7 +6,7 @@ use mathlib.Core.List.{List, [], _∷_}
 use Prim.Native.Nat.{ℕ, zero, suc}
 use lib.Dec.{T}
 use lib.ListN.{replicate}
-use lib.Ieee.{Float, Format, binary64, nan, inf, fin, sum, add, sub, mul, div, neg, lt, le, isNan, ofBits}
+use lib.Ieee.{Float, Format, binary64, nan, inf, fin, add, sub, mul, div, neg, lt, le, isNan, ofBits}
 use Rattle.binary64.specs.Steps.{_⊕_, _⊗_, decimal, nought, abs, isFinite}
 use Rattle.sets.proofs.Tests.{and-l, and-r}
 use Rattle.dense.specs.Entries.{nth, minusDots}

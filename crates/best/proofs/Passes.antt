@@ -3,12 +3,12 @@ use mathlib.Core.Path.{_≡_, refl, sym, ap, ap₂, fun-ext, _∙_}
 use mathlib.Core.Logic.{_⊎_, inl, inr}
 use mathlib.Core.Bool.{Bool, true, false, not, cond, _&&_, _||_}
 use mathlib.Core.List.{List, [], _∷_, _++_, map, map-append}
-use Prim.Native.Nat.{ℕ, suc, _+_, _≤_, _<_, min}
+use Prim.Native.Nat.{ℕ, suc, _+_, _-_, _≤_, _<_, min}
 use native.Mathlib.Omega.{arith}
 use native.Mathlib.Numerals.{add-one}
 use lib.Dec.{T, ltb, leb, eqb, ltb→lt, nltb→le}
-use lib.ListN.{length, set, take, length-take, List·getD-eq-default}
-use lib.Seq.{take-suc-set, getD-take}
+use lib.ListN.{length, set, take, replicate, length-map, length-take, List·getD-eq-default}
+use lib.Seq.{append-snoc, set-append-seam, take-at, getD-take}
 use lib.Ieee.{Float, le}
 use borrow.Author.Tests.{le-leb, lt-ltb, eq-eqb, ne-eqb}
 use Rattle.sets.specs.Sets.{Subset, joined, count}
@@ -18,8 +18,10 @@ use Rattle.sets.proofs.Tests.{either}
 use Rattle.sets.proofs.Digits.{has-zero}
 use Rattle.sets.proofs.Choosing.{choice-turn}
 use Rattle.damped.specs.declared.Fit.{Fit}
+use Rattle.damped.specs.Damped.{unfitted}
 use Rattle.starts.specs.Points.{point}
 use Rattle.best.specs.Best.{fitAt, cheaper, pointsTo}
+use Rattle.best.proofs.Listing.{points-length}
 
 -- what lies past the last of a list of fits
 abbrev pub nothing : Fit
@@ -46,13 +48,27 @@ any-turn S i = go (S i) refl ∙ ap (λ (x : ℕ). ltb 0 (count S x)) (sym (add-
 pub any-next : (S : Subset) (i : ℕ) (b t r : Bool) → b ≡ ltb 0 (count S i) → t ≡ S i → r ≡ (b || t) → r ≡ ltb 0 (count S (i + 1))
 any-next S i b t r e f g = g ∙ ap₂ (λ (x y : Bool). x || y) e f ∙ any-turn S i
 
--- ---- the fits from the starts
-pub fits-turn : (f : List Float → Fit) (at : List Float) (fits : List Fit) (i : ℕ) (fit : Fit) → i < length fits
-    → take i fits ≡ map f (pointsTo at i) → fit ≡ f (point at i) → take (i + 1) (set fits i fit) ≡ map f (pointsTo at (i + 1))
-unfolding pointsTo
-fits-turn f at fits i fit l e g =
-    ap (λ (x : ℕ). take x (set fits i fit)) (add-one i) ∙ take-suc-set fits i fit l ∙ ap₂ (λ (a b : List Fit). a ++ b) e (ap (λ (x : Fit). x ∷ []) g)
-    ∙ sym (map-append f (pointsTo at i) (point at i ∷ [])) ∙ ap (λ (x : ℕ). map f (pointsTo at x)) (sym (add-one i))
+-- ---- the fits from the first i starts, and none in the other of 18 places
+module _ (f : List Float → Fit) (at : List Float) where
+  abbrev made : ℕ → List Fit
+  made i = map f (pointsTo at i)
+
+  made-length : (i : ℕ) → length (made i) ≡ i
+  made-length i = length-map (pointsTo at i) f ∙ points-length at i
+
+  abbrev pub fitsTo : ℕ → List Fit
+  fitsTo i = made i ++ replicate (18 - i) unfitted
+
+  pub fits-turn : (i : ℕ) (fit : Fit) → i < 18 → fit ≡ f (point at i) → set (fitsTo i) i fit ≡ fitsTo (i + 1)
+  unfolding pointsTo
+  fits-turn i fit h g =
+      let rest : List Fit = replicate (18 - (i + 1)) unfitted in
+      let room : 18 - i ≡ suc (18 - (i + 1)) = omega arith in
+      ap₂ (λ (m j : ℕ). set (made i ++ replicate m unfitted) j fit) room (sym (made-length i)) ∙ set-append-seam (made i) unfitted rest fit ∙ ap (λ (x : Fit). made i ++ x ∷ rest) g
+      ∙ sym (append-snoc (made i) (f (point at i)) rest) ∙ ap (λ (fs : List Fit). fs ++ rest) (sym (map-append f (pointsTo at i) (point at i ∷ [])) ∙ ap made (sym (add-one i)))
+
+  pub fits-front : (i : ℕ) (fits : List Fit) → fits ≡ fitsTo i → take i fits ≡ made i
+  fits-front i fits e = ap (take i) e ∙ take-at (made i) (replicate (18 - i) unfitted) i (made-length i)
 
 -- ---- the mask of those that pass a test
 module _ (p : Fit → Bool) (none : p nothing ≡ false) (fits : List Fit) where

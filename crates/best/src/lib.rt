@@ -2,10 +2,10 @@
 // solve.rs.
 ghost use mathlib.Core.Path.{_≡_};
 ghost use mathlib.Core.Bool.{not, _&&_, _||_};
-ghost use mathlib.Core.List.{map};
-ghost use Prim.Native.Nat.{ℕ, _<_, _≤_};
+ghost use mathlib.Core.List.{map, _++_};
+ghost use Prim.Native.Nat.{ℕ, _-_, _<_, _≤_};
 ghost use lib.Dec.{ltb, leb};
-ghost use lib.ListN.{take, length};
+ghost use lib.ListN.{take, replicate};
 ghost use lib.Ieee.{le, lt};
 ghost use Rattle.binary64.specs.Steps.{_⊕_, decimal};
 ghost use Rattle.sets.specs.Sets as sets;
@@ -124,7 +124,7 @@ fn fits(
     count: usize,
 ) -> [Fit; 18]
     requires { ⌜ (k ≤ 32) × (count ≤ 18) ⌝ }
-    ensures { λ r. ⌜ (length r ≡ 18) × (take count r ≡ map (levenbergMarquardt (chosen k (now (sites .entry)) (now (z .entry)) (now (l .entry)) altitude)) (pointsTo (now (at .entry)) count)) ⌝ }
+    ensures { λ r. ⌜ r ≡ map (levenbergMarquardt (chosen k (now (sites .entry)) (now (z .entry)) (now (l .entry)) altitude)) (pointsTo (now (at .entry)) count) ++ replicate (18 - count) unfitted ⌝ }
 {
     let none = no_fit();
     let mut fits = [none; 18];

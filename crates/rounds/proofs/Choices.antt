@@ -1,12 +1,12 @@
 -- The two choices of a round are the worst and the least of demand 3. Assumes nothing.
 use mathlib.Core.Logic.{_⊎_, inl, inr}
 use mathlib.Core.Option.{Option, none, some}
-use mathlib.Core.Bool.{not}
+use mathlib.Core.Bool.{Bool, not}
 use Prim.Native.Nat.{ℕ, _<_}
 use lib.Dec.{T, T-not, not-T}
 use lib.Ieee.{Float, lt, le, isNan, ofBits}
 use Rattle.sets.specs.Sets.{Subset}
-use Rattle.sets.specs.Choice.{IsChoice, Ranks}
+use Rattle.sets.specs.Choice.{FirstBest, IsChoice, Ranks}
 use Rattle.sets.proofs.Tests.{either, and-l, and-r, and-both}
 use Rattle.sets.proofs.Choosing.{choose-is}
 use Rattle.screen.proofs.Removal.{kept-below}
@@ -25,6 +25,10 @@ above-of S z i t = (and-l (S i) (lt five (z i)) t, and-r (S i) (lt five (z i)) t
 
 of-above : (S : Subset) (z : ℕ → Float) (i : ℕ) → T (S i) → T (lt five (z i)) → T (above S z i)
 of-above S z i t u = and-both (S i) (lt five (z i)) t u
+
+-- the first best of some candidates is that of fewer, where it is one of them
+first-of-fewer : (p q : Subset) (beats : ℕ → ℕ → Bool) (k i : ℕ) → ((j : ℕ) → T (q j) → T (p j)) → T (q i) → FirstBest p beats k i → FirstBest q beats k i
+first-of-fewer p q beats k i fewer c b = record { below = b .below; candidate = c; unbeaten = λ j l t. b .unbeaten j l (fewer j t); lowest = λ j l t. b .lowest j l (fewer j t) }
 
 module _ {Q F X : Type 0} (P : Setting Q F X) where
   pub below : (j : ℕ) → T (kept P j) → j < P .n
@@ -112,12 +116,7 @@ module _ {Q F X : Type 0} (P : Setting Q F X) where
         low j l t (inr u) = elim (lt-split five (z j) (z i) (N j (W j t)) (a .1)) [ inl v ↦ absurd (T-not (lt five (z j)) u v) | inr v ↦ v ]
 
     pub some-worst : (i : ℕ) → Worst P S f i → IsWorst S f (some i)
-    some-worst i w = record {
-      below = w .0 .below;
-      candidate = of-above S z i (w .0 .candidate) (w .1);
-      unbeaten = λ j l t. w .0 .unbeaten j l (above-of S z j t .0);
-      lowest = λ j l t. w .0 .lowest j l (above-of S z j t .0);
-    }
+    some-worst i w = first-of-fewer S (above S z) (greater z) (P .n) i (λ j t. above-of S z j t .0) (of-above S z i (w .0 .candidate) (w .1)) (w .0)
 
     pub least-none : IsLeast S f none → (j : ℕ) → T (leftOut P S j) → T (lt five (z j))
     least-none h j o = let k = out-kept S j o in more j k (not-T (le (z j) five) (λ u. T-not (near (kept P) S z j) (h j (below j k)) (of-near S z j o u)))
@@ -147,9 +146,4 @@ module _ {Q F X : Type 0} (P : Setting Q F X) where
         low j l o (inr u) = elim (lt-split five (z i) (z j) (N i (out-kept S i (a .0))) (more j (out-kept S j o) u)) [ inl v ↦ absurd (le-lt five (z i) (a .1) v) | inr v ↦ v ]
 
     pub some-least : (i : ℕ) → Least P S f i → IsLeast S f (some i)
-    some-least i w = record {
-      below = w .0 .below;
-      candidate = of-near S z i (w .0 .candidate) (w .1);
-      unbeaten = λ j l t. w .0 .unbeaten j l (near-of S z j t .0);
-      lowest = λ j l t. w .0 .lowest j l (near-of S z j t .0);
-    }
+    some-least i w = first-of-fewer (leftOut P S) (near (kept P) S z) (less z) (P .n) i (λ j t. near-of S z j t .0) (of-near S z i (w .0 .candidate) (w .1)) (w .0)

@@ -31,7 +31,7 @@ pub enum Case {
     NoFixedPoint,
 }
 
-// A fix, or why there is none: the fix means something in the case Fix only.
+// A fix, or why there is none, with `nothing` beside it.
 pub struct Answer {
     pub case: Case,
     pub fix: Fix,

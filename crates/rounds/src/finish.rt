@@ -22,7 +22,7 @@ pub enum Unpublished {
     OutOfRange,
 }
 
-// A fix, or why there is none.
+// A fix, or why there is none, with `nothing` beside it.
 pub struct Finished {
     pub published: bool,
     pub why: Unpublished,

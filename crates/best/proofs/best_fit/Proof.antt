@@ -3,6 +3,7 @@ use borrow.Author.Needs.{needs}
 use mathlib.Core.Path.{ap, _∙_}
 use lib.ListN.{take}
 use Rattle.best.specs.Best.{asBest, pointsTo}
+use Rattle.best.proofs.Passes.{fits-front}
 use Rattle.best.proofs.Judging.{whitened-found, whitened-refused}
 use Rattle.best.proofs.best_fit.Statement.{statement}
 use Rattle.best.proofs.best_fit.Tie as tie
@@ -21,7 +22,7 @@ returns c =
     let s = c .before .before .before .before .before .before .before .args in
     let w = c .before .before .before .before .before .whitener in
     let made = c .before .fits2 in
-    c .judged .ensures ∙ ap asBest (whitened-found (s .clock-m2 .now) (s .n) (s .noise-m2 .now) (s .index .now) (s .sites .now) (s .z .now) (s .k) (s .altitude) (pointsTo (s .at .now) (s .count)) (w .result) _ (w .ensures) (c .before .before .before .before .if1 .taken) (take (s .count) (made .result)) (made .ensures .1))
+    c .judged .ensures ∙ ap asBest (whitened-found (s .clock-m2 .now) (s .n) (s .noise-m2 .now) (s .index .now) (s .sites .now) (s .z .now) (s .k) (s .altitude) (pointsTo (s .at .now) (s .count)) (w .result) _ (w .ensures) (c .before .before .before .before .if1 .taken) (take (s .count) (made .result)) (fits-front _ (s .at .now) (s .count) (made .result) (made .ensures)))
 
 refused-requires : tie.Need-refused-requires
 refused-requires c κs = search needs

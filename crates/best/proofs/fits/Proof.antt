@@ -1,19 +1,21 @@
--- `best::fits` meets its contract. The invariant: the first i places hold the fits from the first i starts. A turn stores one more (`fits-turn`). Assumes nothing.
+-- `best::fits` meets its contract. The invariant: the first i places hold the fits from the first i starts, and the others none. A turn stores one more (`fits-turn`). Assumes nothing.
 use borrow.Author.Needs.{needs}
-use mathlib.Core.Path.{_≡_, refl, _∙_}
-use mathlib.Core.List.{map}
+use mathlib.Core.Path.{_≡_, ap, _∙_}
+use mathlib.Core.List.{List}
 use Prim.Native.Nat.{_≤_, _-_}
 use native.Mathlib.Omega.{arith}
-use lib.ListN.{length, take, length-set}
+use lib.ListN.{set, replicate}
+use lib.Ieee.{Float}
 use Rattle.whitening.specs.Whitened.{chosen}
+use Rattle.damped.specs.declared.Fit.{Fit}
 use Rattle.damped.specs.Damped.{levenbergMarquardt}
 use Rattle.best.specs.Best.{pointsTo}
-use Rattle.best.proofs.Passes.{fits-turn}
+use Rattle.best.proofs.Passes.{fitsTo, fits-turn}
 use Rattle.best.proofs.fits.Statement.{statement}
 use Rattle.best.proofs.fits.Tie as tie
 
 abbrev Inv-loop : tie.InvT-loop
-Inv-loop sites z k l altitude at count fits₀ i₀ fits i = (i ≤ count) × (length fits ≡ 18) × (take i fits ≡ map (levenbergMarquardt (chosen k sites z l altitude)) (pointsTo at i))
+Inv-loop sites z k l altitude at count fits₀ i₀ fits i = (i ≤ count) × (fits ≡ fitsTo (levenbergMarquardt (chosen k sites z l altitude)) at i)
 
 abbrev μ-loop : tie.MeasureT-loop
 μ-loop sites z k l altitude at count fits₀ i₀ fits i = count - i
@@ -23,7 +25,7 @@ no-fit-requires c κs = search needs
 
 loop-holds : tie.Need-loop-holds Inv-loop μ-loop
 unfolding pointsTo
-loop-holds c = (search needs, refl, refl)
+loop-holds c = (search needs, ap (replicate 18) (c .no-fit .ensures))
 
 point-requires : tie.Need-point-requires Inv-loop μ-loop
 point-requires c κs = search needs
@@ -47,15 +49,15 @@ loop-again : tie.Need-loop-again Inv-loop μ-loop
 loop-again c =
     let s = c .before .before .before .before .before .args in
     let at = c .before .before .before .loop in
-    let fit = c .levenberg-marquardt in (
+    let fit = c .levenberg-marquardt in
+    let f : List Float → Fit = levenbergMarquardt (chosen (s .k) (s .sites .now) (s .z .now) (s .l .now) (s .altitude)) in (
       omega arith,
-      length-set (at .fits) (at .i) (fit .result) ∙ at .inv .1,
-      fits-turn (levenbergMarquardt (chosen (s .k) (s .sites .now) (s .z .now) (s .l .now) (s .altitude))) (s .at .now) (at .fits) (at .i) (fit .result) (omega (arith, at .inv .1)) (at .inv .2) (rw (← c .before .point .ensures) (fit .ensures)),
+      ap (λ (fs : List Fit). set fs (at .i) (fit .result)) (at .inv .1) ∙ fits-turn f (s .at .now) (at .i) (fit .result) (omega arith) (fit .ensures ∙ ap f (c .before .point .ensures)),
     )
 
 returns : tie.Need-returns Inv-loop μ-loop
 returns c =
-    let e : c .before .loop .i ≡ c .before .before .before .args .count = omega arith in (c .before .loop .inv .1, rw e at (c .before .loop .inv .2))
+    let e : c .before .loop .i ≡ c .before .before .before .args .count = omega arith in rw e at (c .before .loop .inv .1)
 
 pub fits-spec : {M : Type 1} → statement M
 fits-spec =

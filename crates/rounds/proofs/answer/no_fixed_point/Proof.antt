@@ -1,4 +1,4 @@
--- `answer::no_fixed_point` meets its contract: beside it stands no fix. Assumes nothing.
+-- `rounds::answer::no_fixed_point` meets its contract: beside it stands no fix. Assumes nothing.
 use borrow.Author.Needs.{needs}
 use Rattle.rounds.proofs.answer.no_fixed_point.Statement.{statement}
 use Rattle.rounds.proofs.answer.no_fixed_point.Tie as tie

@@ -1,4 +1,4 @@
--- `answer::of_finished` meets its contract: by whether there is a fix. Assumes nothing.
+-- `rounds::answer::of_finished` meets its contract: by whether there is a fix. Assumes nothing.
 use borrow.Author.Needs.{needs}
 use mathlib.Core.Path.{ap, _∙_}
 use mathlib.Core.Bool.{true, false}

@@ -1,4 +1,4 @@
--- `answer::refused` meets its contract: beside the refusal stands no fix. Assumes nothing.
+-- `rounds::answer::refused` meets its contract: beside the refusal stands no fix. Assumes nothing.
 use borrow.Author.Needs.{needs}
 use Rattle.rounds.proofs.answer.refused.Statement.{statement}
 use Rattle.rounds.proofs.answer.refused.Tie as tie

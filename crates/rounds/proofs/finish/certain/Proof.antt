@@ -1,4 +1,4 @@
--- `finish::certain` meets its contract: the variances first, then the Cholesky's verdict. Assumes nothing.
+-- `rounds::finish::certain` meets its contract: the variances first, then the Cholesky's verdict. Assumes nothing.
 use borrow.Author.Needs.{needs}
 use Rattle.rounds.specs.Finish.{certain}
 use Rattle.rounds.proofs.Certainty.{definite-verdict}

@@ -1,4 +1,4 @@
--- `finish::covariance` meets its contract, call by call. Assumes nothing.
+-- `rounds::finish::covariance` meets its contract, call by call. Assumes nothing.
 use borrow.Author.Needs.{needs}
 use Rattle.rounds.proofs.finish.covariance.Statement.{statement}
 use Rattle.rounds.proofs.finish.covariance.Tie as tie

@@ -1,4 +1,4 @@
--- `finish::factor` meets its contract, by its one call. Assumes nothing.
+-- `rounds::finish::factor` meets its contract, by its one call. Assumes nothing.
 use borrow.Author.Needs.{needs}
 use Rattle.rounds.proofs.finish.factor.Statement.{statement}
 use Rattle.rounds.proofs.finish.factor.Tie as tie

@@ -1,4 +1,4 @@
--- `finish::finish` meets its contract: each test picks the definition's case, in the same order. Assumes nothing.
+-- `rounds::finish::finish` meets its contract: each test picks the definition's case, in the same order. Assumes nothing.
 use borrow.Author.Needs.{needs}
 use mathlib.Core.Path.{sym, ap, _∙_}
 use mir.Syntax.{w64}

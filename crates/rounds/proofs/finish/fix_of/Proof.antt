@@ -1,4 +1,4 @@
--- `finish::fix_of` meets its contract: the fields one by one, with the position by `from_ecef`. Assumes nothing.
+-- `rounds::finish::fix_of` meets its contract: the fields one by one, with the position by `from_ecef`. Assumes nothing.
 use borrow.Author.Needs.{needs}
 use mir.Syntax.{w64}
 use mir.ValLaws.{toZ-ofZ}

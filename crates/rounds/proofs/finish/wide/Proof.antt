@@ -1,4 +1,4 @@
--- `finish::wide` meets its contract: the three tests, one after the other. Assumes nothing.
+-- `rounds::finish::wide` meets its contract: the three tests, one after the other. Assumes nothing.
 use borrow.Author.Needs.{needs}
 use Rattle.rounds.specs.Finish.{wide, maxVarianceM2}
 use Rattle.rounds.proofs.Certainty.{most}

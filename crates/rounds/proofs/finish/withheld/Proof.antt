@@ -1,4 +1,4 @@
--- `finish::withheld` meets its contract: beside the refusal stands no fix. Assumes nothing.
+-- `rounds::finish::withheld` meets its contract: beside the refusal stands no fix. Assumes nothing.
 use borrow.Author.Needs.{needs}
 use Rattle.rounds.proofs.finish.withheld.Statement.{statement}
 use Rattle.rounds.proofs.finish.withheld.Tie as tie

@@ -1,4 +1,4 @@
--- `moment::earlier` meets its contract: the reference and the difference are told apart by their places, counted from the least i64. Assumes nothing.
+-- `rounds::moment::earlier` meets its contract: the reference and the difference are told apart by their places, counted from the least i64. Assumes nothing.
 use borrow.Author.Needs.{needs}
 use mathlib.Core.Path.{_≡_, ap, _∙_}
 use Prim.Native.Nat.{_-_, _^_}

@@ -1,4 +1,4 @@
--- `moment::later` meets its contract: the reference and the sum are told apart by their places, counted from the least i64. Assumes nothing.
+-- `rounds::moment::later` meets its contract: the reference and the sum are told apart by their places, counted from the least i64. Assumes nothing.
 use borrow.Author.Needs.{needs}
 use mathlib.Core.Path.{_≡_, ap, _∙_}
 use Prim.Native.Nat.{_+_, _^_}

@@ -1,4 +1,4 @@
--- `moment::transmit` meets its contract. A whole number of binary64 within the tests is cast exactly; past them, as for an infinity, the sum leaves i64 whatever the reference. Assumes nothing.
+-- `rounds::moment::transmit` meets its contract. A whole number of binary64 within the tests is cast exactly; past them, as for an infinity, the sum leaves i64 whatever the reference. Assumes nothing.
 use borrow.Author.Needs.{needs}
 use mathlib.Core.Path.{_≡_, sym, subst, _∙_}
 use lib.Dec.{T}

@@ -1,4 +1,4 @@
--- `settled::dof` meets its contract: the count is at most 32, so that one more fits. Assumes nothing.
+-- `rounds::settled::dof` meets its contract: the count is at most 32, so that one more fits. Assumes nothing.
 use borrow.Author.Needs.{needs}
 use native.Mathlib.Omega.{arith}
 use Rattle.sets.specs.Mask.{has}

@@ -1,4 +1,4 @@
--- `settled::limit` meets its contract, call by call, by the columns that `whitened` gives. Assumes nothing.
+-- `rounds::settled::limit` meets its contract, call by call, by the columns that `whitened` gives. Assumes nothing.
 use borrow.Author.Needs.{needs}
 use Rattle.rounds.proofs.Late.{limit-is}
 use Rattle.rounds.proofs.settled.limit.Statement.{statement}
