@@ -1,5 +1,5 @@
 -- The choice by costs that are numbers is the first of the least: `cheaper` is `lt` there, which ranks numbers. Assumes nothing.
-use mathlib.Core.Path.{_≡_, refl, sym, ap, subst, _∙_}
+use mathlib.Core.Path.{_≡_, refl, sym, ap, ap₂, subst, _∙_}
 use mathlib.Core.Option.{Option, none, some}
 use mathlib.Core.Bool.{Bool, true, false, not, cond}
 use Prim.Native.Nat.{ℕ, zero, suc, _<_}
@@ -11,31 +11,33 @@ use Rattle.sets.proofs.Tests.{eq→T, same-T}
 use Rattle.sets.proofs.Choosing.{choose-is}
 use Rattle.best.proofs.Order.{lt-split, lt-asym, le-of-not-lt, lt-of-not-le, le-lt}
 
--- a choice is a candidate, whatever beats what
-pub chosen : (p : ℕ → Bool) (beats : ℕ → ℕ → Bool) (k i : ℕ) → choose p beats k ≡ some i → T (p i)
+-- a choice is a candidate below k, whatever beats what
+chosen : (p : ℕ → Bool) (beats : ℕ → ℕ → Bool) (k i : ℕ) → choose p beats k ≡ some i → T (p i) × (i < k)
 unfolding choose consider
 chosen p beats zero i e = absurd (let z : _≡_ {A = ℕ} 0 1 = cc in omega arith)
 chosen p beats (suc k) i e = go (p k) refl (choose p beats k) (λ j q. chosen p beats k j q) e
   where
-    pick : (x : Bool) (b : ℕ) → T (p k) → T (p b) → cond x (some k) (some b) ≡ some i → T (p i)
-    pick true b t u q = let w : k ≡ i = cc in subst (λ (j : ℕ). T (p j)) w t
-    pick false b t u q = let w : b ≡ i = cc in subst (λ (j : ℕ). T (p j)) w u
+    pick : (x : Bool) (b : ℕ) → T (p k) → T (p b) × (b < k) → cond x (some k) (some b) ≡ some i → T (p i) × (i < suc k)
+    pick true b t u q = let w : k ≡ i = cc in (subst (λ (j : ℕ). T (p j)) w t, omega (arith, w))
+    pick false b t u q = let w : b ≡ i = cc in (subst (λ (j : ℕ). T (p j)) w (u .0), omega (arith, w, u .1))
 
-    go : (t : Bool) → p k ≡ t → (o : Option ℕ) → ((j : ℕ) → o ≡ some j → T (p j)) → consider beats t k o ≡ some i → T (p i)
-    go false f o h q = h i q
-    go true f none h q = let w : k ≡ i = cc in subst (λ (j : ℕ). T (p j)) w (eq→T f)
+    go : (t : Bool) → p k ≡ t → (o : Option ℕ) → ((j : ℕ) → o ≡ some j → T (p j) × (j < k)) → consider beats t k o ≡ some i → T (p i) × (i < suc k)
+    go false f o h q = let u = h i q in (u .0, omega (arith, u .1))
+    go true f none h q = let w : k ≡ i = cc in (subst (λ (j : ℕ). T (p j)) w (eq→T f), omega (arith, w))
     go true f (some b) h q = pick (beats k b) b (eq→T f) (h b refl) q
 
--- only how candidates beat candidates matters
-same-choice : (p : ℕ → Bool) (b c : ℕ → ℕ → Bool) → ((i j : ℕ) → T (p i) → T (p j) → b i j ≡ c i j) → (k : ℕ) → choose p b k ≡ choose p c k
+-- only which are candidates below k, and how those beat each other, matters
+pub same-choice : (p q : ℕ → Bool) (b c : ℕ → ℕ → Bool) (k : ℕ) → ((j : ℕ) → j < k → p j ≡ q j) → ((i j : ℕ) → i < k → j < k → T (p i) → T (p j) → b i j ≡ c i j) → choose p b k ≡ choose q c k
 unfolding choose consider
-same-choice p b c same zero = refl
-same-choice p b c same (suc k) = go (p k) refl (choose p b k) refl ∙ ap (consider c (p k) k) (same-choice p b c same k)
+same-choice p q b c zero e f = refl
+same-choice p q b c (suc k) e f =
+    go (p k) refl (choose p b k) refl
+    ∙ ap₂ (λ (t : Bool) (o : Option ℕ). consider c t k o) (e k (omega arith)) (same-choice p q b c k (λ j l. e j (omega arith)) (λ i j l m. f i j (omega arith) (omega arith)))
   where
     go : (t : Bool) → p k ≡ t → (o : Option ℕ) → choose p b k ≡ o → consider b t k o ≡ consider c t k o
-    go false f o e = refl
-    go true f none e = refl
-    go true f (some j) e = ap (λ (x : Bool). cond x (some k) (some j)) (same k j (eq→T f) (chosen p b k j e))
+    go false h o d = refl
+    go true h none d = refl
+    go true h (some j) d = let u = chosen p b k j d in ap (λ (x : Bool). cond x (some k) (some j)) (f k j (omega arith) (omega (arith, u .1)) (eq→T h) (u .0))
 
 module _ (p : ℕ → Bool) (cost : ℕ → Float) (number : (i : ℕ) → T (p i) → T (not (isNan (cost i)))) where
   abbrev less : ℕ → ℕ → Bool
@@ -58,7 +60,7 @@ module _ (p : ℕ → Bool) (cost : ℕ → Float) (number : (i : ℕ) → T (p 
   choice k = choose p (λ i j. not (le (cost j) (cost i))) k
 
   is-choice : (k : ℕ) (o : Option ℕ) → choice k ≡ o → IsChoice p less k o
-  is-choice k o e = subst (IsChoice p less k) (sym (same-choice p (λ i j. not (le (cost j) (cost i))) less turned k) ∙ e) (choose-is p less ranks k)
+  is-choice k o e = subst (IsChoice p less k) (sym (same-choice p p (λ i j. not (le (cost j) (cost i))) less k (λ j l. refl) (λ i j l m. turned i j)) ∙ e) (choose-is p less ranks k)
 
   pub cheapest-of : (k i : ℕ) → choice k ≡ some i → Cheapest k i
   cheapest-of k i e =

@@ -1,10 +1,10 @@
 -- The outlier rule over an array of residuals: its loops, and that it comes to the same over residuals that are equal. Assumes nothing.
-use mathlib.Core.Path.{_≡_, refl, sym, ap, ap₂, subst, _∙_}
+use mathlib.Core.Path.{_≡_, sym, ap, ap₂, subst, _∙_}
 use mathlib.Core.Logic.{inl, inr}
-use mathlib.Core.Option.{Option, none, some}
-use mathlib.Core.Bool.{Bool, true, false, not, cond, _&&_}
+use mathlib.Core.Option.{Option}
+use mathlib.Core.Bool.{true, false, not, _&&_}
 use mathlib.Core.List.{List}
-use Prim.Native.Nat.{ℕ, zero, suc, _+_, _<_}
+use Prim.Native.Nat.{ℕ, _+_, _<_}
 use native.Mathlib.Omega.{arith}
 use native.Mathlib.Numerals.{add-one}
 use lib.Dec.{T, ltb, lt→ltb}
@@ -14,9 +14,9 @@ use lib.Ieee.{Float, nan, lt, le, ne, isNan}
 use lib.Ieee.Compare.{differs-from-itself}
 use Rattle.dense.specs.Entries.{nth}
 use Rattle.sets.specs.Sets.{Subset, count}
-use Rattle.sets.specs.Choice.{consider, choose}
 use Rattle.sets.proofs.Tests.{T→eq, eq→T, same-T, lt-suc-cases}
 use Rattle.sets.proofs.Counting.{count-same, count-pos}
+use Rattle.best.proofs.Cheapest.{same-choice}
 use Rattle.rounds.specs.Setting.{five}
 use Rattle.rounds.specs.Rounds.{above, greater, worst, near, less, least, noNumber, unnumbered, turned, decided}
 
@@ -49,44 +49,11 @@ put-next f out i x l h e j k = elim (lt-suc-cases j i (omega arith)) [
   | inr q ↦ getD-set-other out i j x nan (λ d. omega arith) ∙ h j q
 ]
 
--- ---- choices that agree below k
-abbrev Below : ℕ → Option ℕ → Type 0
-Below k none = Unit {0}
-Below k (some j) = j < k
-
-module _ (p q : ℕ → Bool) (b c : ℕ → ℕ → Bool) where
-  choose-below : (k : ℕ) → Below k (choose p b k)
-  unfolding choose consider
-  choose-below zero = tt
-  choose-below (suc k) = go (p k) (choose p b k) (choose-below k)
-    where
-      pick : (t : Bool) (j : ℕ) → j < k → Below (suc k) (cond t (some k) (some j))
-      pick true j h = omega arith
-      pick false j h = omega arith
-
-      go : (t : Bool) (o : Option ℕ) → Below k o → Below (suc k) (consider b t k o)
-      go false none h = tt
-      go false (some j) h = omega arith
-      go true none h = omega arith
-      go true (some j) h = pick (b k j) j h
-
-  pub choose-same : (k : ℕ) → ((j : ℕ) → j < k → p j ≡ q j) → ((i j : ℕ) → i < k → j < k → b i j ≡ c i j) → choose p b k ≡ choose q c k
-  unfolding choose consider
-  choose-same zero e f = refl
-  choose-same (suc k) e f =
-      let rest = choose-same k (λ j l. e j (omega arith)) (λ i j l m. f i j (omega arith) (omega arith)) in
-      go (p k) (choose p b k) (choose-below k) ∙ ap₂ (λ (t : Bool) (o : Option ℕ). consider c t k o) (e k (omega arith)) rest
-    where
-      go : (t : Bool) (o : Option ℕ) → Below k o → consider b t k o ≡ consider c t k o
-      go false o h = refl
-      go true none h = refl
-      go true (some j) h = ap (λ (t : Bool). cond t (some k) (some j)) (f k j (omega arith) (omega arith))
-
 -- ---- the rule, by residuals that are equal below n
 pub decided-same : {F : Type 0} (K S : Subset) (z y : ℕ → Float) (n : ℕ) (f : F) → ((j : ℕ) → j < n → z j ≡ y j) → decided K S z n f ≡ decided K S y n f
 unfolding decided
 decided-same K S z y n f e =
     ap (λ (c : ℕ). turned S f (ltb 0 c) (worst S z n) (least K S z n)) (count-same (noNumber K z) (noNumber K y) n (λ j l. ap (λ (x : Float). K j && isNan x) (e j l)))
     ∙ ap₂ (λ (w l : Option ℕ). turned S f (unnumbered K y n) w l)
-    (choose-same (above S z) (above S y) (greater z) (greater y) n (λ j l. ap (λ (x : Float). S j && lt five x) (e j l)) (λ i j l m. ap₂ lt (e j m) (e i l)))
-    (choose-same (near K S z) (near K S y) (less z) (less y) n (λ j l. ap (λ (x : Float). (K j && not (S j)) && le x five) (e j l)) (λ i j l m. ap₂ lt (e i l) (e j m)))
+    (same-choice (above S z) (above S y) (greater z) (greater y) n (λ j l. ap (λ (x : Float). S j && lt five x) (e j l)) (λ i j l m s t. ap₂ lt (e j m) (e i l)))
+    (same-choice (near K S z) (near K S y) (less z) (less y) n (λ j l. ap (λ (x : Float). (K j && not (S j)) && le x five) (e j l)) (λ i j l m s t. ap₂ lt (e i l) (e j m)))
