@@ -30,7 +30,7 @@ pub data Outcome (E A : Type 0) : Type 0 where
   fails : E → Outcome E A
   gives : A → Outcome E A
 
--- as the code holds it: no fit beside a refusal, and the first refusal beside a fit
+-- as the code holds it: beside a refusal stands no fit, and beside a fit a refusal that means nothing
 abbrev pub asBest : Outcome Unfit Fit → Best
 asBest (fails e) = record { found = false; why = e; fit = unfitted }
 asBest (gives f) = record { found = true; why = NoConvergence; fit = f }

@@ -4,24 +4,15 @@ use mathlib.Core.Path.{_≡_, ap, _∙_}
 use mathlib.Core.List.{List}
 use lib.ListN.{length, take, drop}
 use lib.Seq.{take-at}
-use Rattle.problem.specs.declared.Problem.{Problem}
 use Rattle.inputs.specs.declared.Check.{Check}
 use Rattle.inputs.specs.declared.Check.the-variants.{Passed}
 use Rattle.inputs.specs.Inputs.{Inputs, checkInputs, problemOf}
 use Rattle.inputs.proofs.Order.{few}
-use Rattle.rounds.specs.Setting.{Answer}
-use Rattle.rounds.specs.Solve.{settingAt, solveProblem}
-use Rattle.rounds.specs.Demand.{rounds, Claim}
-use Rattle.rounds.proofs.Claim.{only}
-use Rattle.rounds.proofs.Found.{demand-met}
-use Rattle.record.specs.declared.content.Fix.{Fix}
+use Rattle.rounds.specs.Solve.{solveProblem}
+use Rattle.rounds.proofs.Found.{demand-met, no-other}
 use Rattle.record.specs.Record.{stored}
 use Rattle.entry.specs.declared.Reply.{Reply}
 use Rattle.entry.specs.Reply.{recordOf, replied, reply, Demanded}
-
-no-other : (P : Problem) (a : Answer Fix) → Claim (rounds P) a → a ≡ solveProblem P
-unfolding solveProblem
-no-other P = only (settingAt P)
 
 module _ (I : Inputs) (passes : checkInputs I ≡ Passed) where
   small : problemOf I .n ≤ 32

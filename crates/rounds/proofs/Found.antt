@@ -31,10 +31,10 @@ use Rattle.best.specs.Meaning.{NoRival, IsBestOver}
 use Rattle.best.proofs.Over.{found-is-best-over}
 use Rattle.record.specs.declared.content.Fix.{Fix}
 use Rattle.rounds.specs.declared.finish.Unpublished.the-variants.{Inconsistent, Uncertain, OutOfRange}
-use Rattle.rounds.specs.Setting.{five, kept}
+use Rattle.rounds.specs.Setting.{Answer, five, kept}
 use Rattle.rounds.specs.Finish.{held, transmitPs, certain, fixOf, inverted, finish}
 use Rattle.rounds.specs.Solve.{limitAt, normalised, dofOf, tested, later, settingAt, solveProblem}
-use Rattle.rounds.specs.Demand.{Fixed, rounds, usedBy, paramsBy, Found, DemandMet, OneAnswer}
+use Rattle.rounds.specs.Demand.{Fixed, Claim, rounds, usedBy, paramsBy, Found, DemandMet, OneAnswer}
 use Rattle.rounds.proofs.Chains.{all-kept, chain-within}
 use Rattle.rounds.proofs.Claim.{claim, only}
 
@@ -174,6 +174,10 @@ pub demand-met : DemandMet
 unfolding solveProblem
 demand-met P N = record { claim = claim (settingAt P); found = λ x h. found-with P N x h }
 
-pub one-answer : OneAnswer
+-- the claim alone decides the answer
+pub no-other : (P : Problem) (a : Answer Fix) → Claim (rounds P) a → a ≡ solveProblem P
 unfolding solveProblem
-one-answer P a d = only (settingAt P) a (d .claim)
+no-other P = only (settingAt P)
+
+pub one-answer : OneAnswer
+one-answer P a d = no-other P a (d .claim)

@@ -94,7 +94,7 @@ nothing =
     let none = replicate 3 nought in
     record { mask = 0; dof = 0; ecef = none; t = nought; position = record { «lat_deg» = nought; «lon_deg» = nought; «height_m» = nought }; «transmit_ps» = pos 0; r0 = none; r1 = none; r2 = none; chi2 = nought }
 
--- no fix beside a refusal, and the last refusal beside a fix
+-- beside a refusal stands no fix, and beside a fix a refusal that means nothing
 abbrev pub asFinished : Outcome Unpublished Fix → Finished
 asFinished (fails e) = record { published = false; why = e; fix = nothing }
 asFinished (gives x) = record { published = true; why = OutOfRange; fix = x }

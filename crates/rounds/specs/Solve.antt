@@ -95,7 +95,7 @@ stepOf (Ends why) f = ends why
 stepOf (Changes mask) f = changes (has mask) f
 stepOf Settles f = settles f
 
--- an answer: no fix beside a refusal
+-- an answer: beside a refusal stands no fix
 abbrev pub asAnswer : Answer Fix → code.Answer
 asAnswer (fix x) = record { case = case.Fix; fix = x }
 asAnswer (refused why) = record { case = case.Refused why; fix = nothing }
