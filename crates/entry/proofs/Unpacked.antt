@@ -1,9 +1,11 @@
 -- Arrays by field get the reply of the receptions that they were filled from. Assumes nothing.
 use Prim.Native.Nat.{ℕ, _≤_}
 use mathlib.Core.Path.{_≡_, refl, ap, sym, subst, _∙_}
-use mathlib.Core.Bool.{Bool, cond}
+use mathlib.Core.Bool.{Bool, true, false, cond}
 use mathlib.Core.List.{List}
-use lib.Dec.{ltb}
+use native.Mathlib.Omega.{arith}
+use borrow.Author.Tests.{le-leb, leb-true}
+use lib.Dec.{ltb, leb}
 use lib.ListN.{length}
 use Rattle.problem.specs.declared.Problem.{Problem}
 use Rattle.receptions.specs.declared.Reception.{Reception}
@@ -20,6 +22,18 @@ use Rattle.record.specs.Record.{stored}
 use Rattle.entry.specs.declared.Reply.{Reply}
 use Rattle.entry.specs.Reply.{answered, replied, reply, answer, output, Demanded}
 
+-- ---- how many are unpacked: all of up to 32, none of more
+pub few-all : (n k : ℕ) → k ≡ cond (leb n 32) n 0 → n ≤ 32 → k ≡ n
+few-all n k e h = e ∙ ap (λ (t : Bool). cond t n 0) (le-leb n 32 h)
+
+pub few-within : (n k : ℕ) → k ≡ cond (leb n 32) n 0 → (k ≤ n) × (k ≤ 32)
+few-within n k e = go (leb n 32) (leb-true n 32) e
+  where
+    go : (t : Bool) → (t ≡ true → n ≤ 32) → k ≡ cond t n 0 → (k ≤ n) × (k ≤ 32)
+    go true h q = (omega (arith, q), omega (arith, q, h refl))
+    go false h q = (omega (arith, q), omega (arith, q))
+
+-- ---- the reply
 -- what `solve_fields` promises: answer, output, demand
 abbrev pub Solved : Inputs → List ℕ → ℕ → List ℕ → Type 0
 Solved I out r after = (r ≡ answer I out) × ((after ≡ output I out) × (checkInputs I ≡ Passed → 176 ≤ length out → Demanded (problemOf I) after))

@@ -1,6 +1,8 @@
 // The solve: four inputs to an answer number and a record of 176 bytes.
 ghost use mathlib.Core.Path.{_≡_};
+ghost use mathlib.Core.Bool.{cond};
 ghost use Prim.Native.Nat.{_≤_, _<_};
+ghost use lib.Dec.{leb};
 ghost use lib.ListN.{length};
 ghost use Rattle.receptions.specs.Receptions.{fieldsOf, receptionIn};
 ghost use Rattle.inputs.specs.Faults.{passed, numberOf};
@@ -162,7 +164,7 @@ pub fn solve_fields(
 
 // How many of n receptions are unpacked: of over 32 none.
 pub fn few(n: usize) -> usize
-    ensures { λ r. ⌜ (r ≤ n) × (r ≤ 32) × (n ≤ 32 → r ≡ n) ⌝ }
+    ensures { λ r. ⌜ r ≡ cond (leb n 32) n 0 ⌝ }
 {
     if MOST < n {
         return 0;
