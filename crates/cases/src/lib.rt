@@ -2,6 +2,7 @@
 ghost use Prim.Native.Nat.{_+_, _<_, _≤_};
 ghost use mathlib.Core.Bool.{cond};
 ghost use mathlib.Core.Path.{_≡_};
+ghost use lib.ListN.{length, drop};
 ghost use Rattle.io.specs.Counts.{Counts};
 use libc::STDIN_FILENO;
 
@@ -33,11 +34,15 @@ impl Tally {
     }
 }
 
-// Reads the next n bytes to the start of `bytes`, and says how many came: none where `bytes` has no room for n.
+// Reads the next n bytes to the start of `bytes`, and says how many came: none where `bytes` has no room for n. What comes, and how much of it, is not
+// promised: `io::read_full` says nothing of that.
 pub fn read(bytes: &mut [u8], n: usize) -> usize
     ensures { λ r. ⌜ Counts r (now (bytes .exit)) ⌝ }
+    ensures { λ r. ⌜ (r ≤ n) × (drop n (now (bytes .exit)) ≡ drop n (now (bytes .entry))) ⌝ }
+    ensures { λ r. ⌜ (length (now (bytes .entry)) < n → (r ≡ 0) × (now (bytes .exit) ≡ now (bytes .entry))) ⌝ }
 {
-    if n > bytes.len() {
+    let room = bytes.len();
+    if n > room {
         return 0;
     }
     io::read_full(STDIN_FILENO, &mut bytes[..n])

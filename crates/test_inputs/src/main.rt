@@ -23,6 +23,15 @@ fn length_of(word: u64) -> usize {
     word as usize
 }
 
+// Which of the files that may be absent are there.
+fn given(header: &[u8; 64]) -> Given {
+    Given {
+        clock: words::u64_at(header, 8) != ABSENT,
+        altitude: words::u64_at(header, 16) != ABSENT,
+        reference: words::u64_at(header, 24) != ABSENT,
+    }
+}
+
 // n receptions by field, where they are no more than 32.
 fn unpacked(bytes: &[u8], n: usize) -> Fields
     requires { ⌜ receptionBytes * n ≤ length (now bytes) ⌝ }
@@ -75,14 +84,9 @@ fn agrees(header: &[u8; 64]) -> bool {
     let b = cases::read(&mut clock, length_of(words::u64_at(header, 8)));
     let c = cases::read(&mut altitude, length_of(words::u64_at(header, 16)));
     let d = cases::read(&mut reference, length_of(words::u64_at(header, 24)));
-    let g = Given {
-        clock: words::u64_at(header, 8) != ABSENT,
-        altitude: words::u64_at(header, 16) != ABSENT,
-        reference: words::u64_at(header, 24) != ABSENT,
-    };
     answers(
         &receptions[..a],
-        g,
+        given(header),
         &clock[..b],
         &altitude[..c],
         &reference[..d],
