@@ -7,6 +7,7 @@
 // receptions.bin 2,112 bytes, one reception too many, stand for every longer whole number of receptions,
 // and 2,111 for every torn one.
 ghost use Prim.Native.Nat.{_≤_};
+ghost use mathlib.Core.Path.{_≡_};
 ghost use Rattle.io.specs.Counts.{Counts};
 use libc::ENOENT;
 use libc::STDOUT_FILENO;
@@ -48,16 +49,23 @@ fn closed(fd: i32, path: &[u8]) -> bool {
     read
 }
 
+// Nothing of a file that is not open.
+fn missing(fd: i32) -> Part
+    ensures { λ r. ⌜ r .n ≡ 0 ⌝ }
+{
+    Part {
+        read: fd == ABSENT,
+        there: false,
+        n: 0,
+    }
+}
+
 fn read_file(path: &[u8], buf: &mut [u8]) -> Part
     ensures { λ r. ⌜ Counts (r .n) (now (buf .exit)) ⌝ }
 {
     let fd = opened(path);
     if fd < 0 {
-        return Part {
-            read: fd == ABSENT,
-            there: false,
-            n: 0,
-        };
+        return missing(fd);
     }
     let n = io::read_full(fd, buf);
     let read = closed(fd, path);
@@ -88,38 +96,34 @@ fn rest_is_whole(fd: i32) -> bool {
     true
 }
 
+// How many of the n bytes that were read of receptions.bin stand for all of it. Where they fill the buffer, it
+// matters whether what follows them is a whole number of receptions.
+fn taken(n: usize, whole: bool) -> usize
+    ensures { λ r. ⌜ r ≤ n ⌝ }
+{
+    if n < 2112 {
+        return n;
+    }
+    if whole {
+        return n;
+    }
+    n - 1
+}
+
 fn read_receptions(buf: &mut [u8]) -> Part
     ensures { λ r. ⌜ Counts (r .n) (now (buf .exit)) ⌝ }
 {
     let fd = opened(b"receptions.bin");
     if fd < 0 {
-        return Part {
-            read: fd == ABSENT,
-            there: false,
-            n: 0,
-        };
+        return missing(fd);
     }
     let n = io::read_full(fd, buf);
     let whole = rest_is_whole(fd);
     let read = closed(fd, b"receptions.bin");
-    if n < 2112 {
-        return Part {
-            read,
-            there: true,
-            n,
-        };
-    }
-    if whole {
-        return Part {
-            read,
-            there: true,
-            n,
-        };
-    }
     Part {
         read,
         there: true,
-        n: n - 1,
+        n: taken(n, whole),
     }
 }
 
@@ -133,11 +137,13 @@ fn bit(there: bool, value: u32) -> u32
     0
 }
 
-fn both(a: bool, b: bool) -> bool {
-    if a {
-        return b;
-    }
-    false
+// The bits of the inputs that are there.
+fn present(clock: bool, altitude: bool, reference: bool) -> u32 {
+    bit(clock, 1) + bit(altitude, 2) + bit(reference, 4)
+}
+
+fn all(a: bool, b: bool, c: bool, d: bool) -> bool {
+    a && b && c && d
 }
 
 fn main() {
@@ -154,9 +160,8 @@ fn main() {
     let cn = c.n;
     let an = a.n;
     let rn = r.n;
-    let present = bit(c.there, 1) + bit(a.there, 2) + bit(r.there, 4);
-    let read = both(both(p.read, c.read), both(a.read, r.read));
-    if read {
+    let present = present(c.there, a.there, r.there);
+    if all(p.read, c.read, a.read, r.read) {
         entry::solve(
             &rs[..pn],
             &cs[..cn],

@@ -1,6 +1,6 @@
--- `solve::read_receptions` meets its contract: one byte fewer than were read is within the buffer too. Assumes nothing.
+-- `solve::read_receptions` meets its contract: as many as were read, or one fewer, are within the buffer. Assumes nothing.
 use borrow.Author.Needs.{needs}
-use Prim.Native.Nat.{_-_, _≤_}
+use Prim.Native.Nat.{_≤_}
 use mathlib.Core.Path.{sym}
 use native.Mathlib.Omega.{arith}
 use lib.ListN.{length}
@@ -13,6 +13,9 @@ slice-aggregate-opened c = search needs
 
 opened-requires : tie.Need-opened-requires
 opened-requires c κs = search needs
+
+missing-requires : tie.Need-missing-requires
+missing-requires c κs = search needs
 
 returns : tie.Need-returns
 returns c = search needs
@@ -29,28 +32,16 @@ slice-aggregate-closed c = search needs
 closed-requires : tie.Need-closed-requires
 closed-requires c κs = search needs
 
+taken-requires : tie.Need-taken-requires
+taken-requires c κs = search needs
+
 same-length : tie.Need-same-length
 same-length c = search needs
 
 returns-2 : tie.Need-returns-2
-returns-2 c = search needs
-
-same-length-2 : tie.Need-same-length-2
-same-length-2 c = search needs
-
-returns-3 : tie.Need-returns-3
-returns-3 c = search needs
-
-sub-t16 : tie.Need-sub-t16
-sub-t16 c = search needs
-
-same-length-3 : tie.Need-same-length-3
-same-length-3 c = search needs
-
-returns-4 : tie.Need-returns-4
-returns-4 c =
-    let h : c .before .before .before .before .before .before .before .read-full .result - 1 ≤ length (c .before .before .before .before .before .before .before .read-full .last .1 .0) = omega arith in
-    (h, sym (length-take-le (c .before .before .before .before .before .before .before .read-full .result - 1) (c .before .before .before .before .before .before .before .read-full .last .1 .0) h))
+returns-2 c =
+    let h : c .taken .result ≤ length (c .before .before .before .before .before .before .read-full .last .1 .0) = omega arith in
+    (h, sym (length-take-le (c .taken .result) (c .before .before .before .before .before .before .read-full .last .1 .0) h))
 
 pub read-receptions-spec : {M : Type 1} → statement M
 read-receptions-spec =
@@ -58,15 +49,12 @@ read-receptions-spec =
     (tie.spec
     slice-aggregate-opened
     opened-requires
+    missing-requires
     returns
     read-full-requires
     rest-is-whole-requires
     slice-aggregate-closed
     closed-requires
+    taken-requires
     same-length
-    returns-2
-    same-length-2
-    returns-3
-    sub-t16
-    same-length-3
-    returns-4)
+    returns-2)
