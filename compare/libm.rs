@@ -1,4 +1,4 @@
-//! The port's five beside Rust's own f64 functions: how many binary64 lie between their results, at most 2. Built and run by compare/libm.
+//! The port's five beside Rust's own f64 functions: how many steps their results are apart. Built and run by compare/libm.
 
 mod random;
 

@@ -61,10 +61,10 @@ fn read(folder: &Path, name: &str) -> String {
     })
 }
 
-fn once(text: &str, old: &str, times: usize, of: &str) {
-    let found = text.matches(old).count();
-    if found != times {
-        eprintln!("oracle: {of} has {found} times, not {times}: {}", old.escape_debug());
+fn found(text: &str, old: &str, times: usize, of: &str) {
+    let count = text.matches(old).count();
+    if count != times {
+        eprintln!("oracle: {of} has {count} times, not {times}: {}", old.escape_debug());
         exit(1)
     }
 }
@@ -78,7 +78,7 @@ fn main() {
     for name in ["solve.rs", "linalg.rs", "geo.rs"] {
         let mut text = read(from, name);
         for (_, old, new, times, _) in REPLACEMENTS.iter().filter(|replacement| replacement.0 == name) {
-            once(&text, old, *times, name);
+            found(&text, old, *times, name);
             text = text.replace(old, new);
         }
         fs::write(to.join(name), text).expect("the copy is writable");
@@ -86,7 +86,7 @@ fn main() {
     let clock = read(from, "clock.rs");
     let mut taken = String::new();
     for (first, last) in CLOCK {
-        once(&clock, first, 1, "clock.rs");
+        found(&clock, first, 1, "clock.rs");
         let rest = &clock[clock.find(first).expect("it is there")..];
         let end = rest.find(last).expect("it ends") + last.len();
         taken += &rest[..end];

@@ -1,5 +1,4 @@
-//! What the rounds of a problem did, told by running solve.rs's own parts round by round: for choosing problems and for counting. That it ends as `solve_problem` does is
-//! asserted by those who use it.
+//! What the rounds of a problem did, told by running solve.rs's own parts round by round: for choosing problems and for counting. No record comes from it.
 
 use crate::parts::number;
 use crate::solve::{Fit, OUTLIER_Z, Params, Problem};

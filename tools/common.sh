@@ -20,17 +20,20 @@ need() {
     done
 }
 
-# numbers WORD..: whole numbers, or the usage.
+# numbers MOST WORD..: whole numbers, MOST of them at most, or the usage.
 numbers() {
+    [ $# -le $(($1 + 1)) ] || usage
+    shift
     for word in "$@"; do
         case $word in '' | *[!0-9]*) usage ;; esac
     done
 }
 
-# original SRC FILE..: sets src, the folder SRC of the original, where the files have to be.
+# original SRC FILE..: sets src, the folder SRC of the original, where the files have to be; an option gets the usage.
 original() {
     folder=$1
     shift
+    case $folder in -*) usage ;; esac
     for file in "$@"; do
         if [ ! -f "$folder/$file" ]; then
             echo "$0: there is no $folder/$file: SRC is the folder of the original, with $* in it" >&2

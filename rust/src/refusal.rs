@@ -29,9 +29,9 @@ pub enum Refusal {
     BadField(Field),
     /// The clock covariance is not n × n.
     ClockSize,
-    /// Under 176 bytes lent; only [`crate::solve_bytes`] meets it.
+    /// Under 176 bytes lent; only [`crate::solve_bytes`] and [`crate::solve_receptions`] meet it, and no record has it.
     ShortOutput,
-    /// An input has not a whole number of entries; only [`crate::solve_bytes`] meets it.
+    /// An input has not a whole number of entries; only [`crate::solve_bytes`] and [`crate::solve_receptions`] meet it.
     TornInput,
     /// No number of a record that a solve writes.
     Unknown { number: u32, detail: u32 },
