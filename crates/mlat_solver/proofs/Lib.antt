@@ -1,2 +1,2 @@
--- Document 01's table of edges, and what the C names share.
+-- Document 01's table of edges.
 pub mod Edges

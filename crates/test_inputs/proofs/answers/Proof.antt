@@ -2,7 +2,8 @@
 use borrow.Author.Needs.{needs}
 use mathlib.Core.Path.{_≡_, sym, subst, _∙_}
 use mathlib.Core.Bool.{Bool}
-use Prim.Native.Nat.{_/_, _%_}
+use mathlib.Core.List.{List}
+use Prim.Native.Nat.{ℕ, _/_, _%_}
 use lib.Dec.{eqb}
 use lib.ListN.{length}
 use Rattle.receptions.specs.declared.Fields.{Fields}
@@ -55,10 +56,12 @@ returns-2 c = search needs
 
 problem-of-requires : tie.Need-problem-of-requires
 problem-of-requires c κs =
-    let whole : Bool = eqb (length (c .before .before .before .before .before .before .before .before .before .before .before .args .receptions .now) % 64) 0 in
+    let s : tie.Start = c .before .before .before .before .before .before .before .before .before .before .before in
+    let bytes : List ℕ = s .args .receptions .now in
     let f : Fields = c .before .before .before .before .unpacked .result in
-    let e : checkInputs (lent ((c .before .before .before .before .before .before .before .before .before .before .before)) f whole) ≡ Passed = sym (c .before .before .before .check-inputs .ensures) ∙ is-passed (c .before .before .before .check-inputs .result) (c .before .before .match .keys2) in
-    (nothing-else f (length (c .before .before .before .before .before .before .before .before .before .before .before .args .receptions .now) / 64) (receptionAt (c .before .before .before .before .before .before .before .before .before .before .before .args .receptions .now)) (c .before .before .before .before .unpacked .ensures) (few (lent ((c .before .before .before .before .before .before .before .before .before .before .before)) f whole) e), subst (λ (w : Bool). checkInputs (lent ((c .before .before .before .before .before .before .before .before .before .before .before)) f w) ≡ Passed) (is-whole (lent ((c .before .before .before .before .before .before .before .before .before .before .before)) f whole) e) e)
+    let given : Inputs = lent s f (eqb (length bytes % 64) 0) in
+    let e : checkInputs given ≡ Passed = sym (c .before .before .before .check-inputs .ensures) ∙ is-passed (c .before .before .before .check-inputs .result) (c .before .before .match .keys2) in
+    (nothing-else f (length bytes / 64) (receptionAt bytes) (c .before .before .before .before .unpacked .ensures) (few given e), subst (λ (w : Bool). checkInputs (lent s f w) ≡ Passed) (is-whole given e) e)
 
 u64-at-requires-3 : tie.Need-u64-at-requires-3
 u64-at-requires-3 c κs = search needs
