@@ -34,8 +34,8 @@ impl Tally {
     }
 }
 
-// Reads the next n bytes to the start of `bytes`, and says how many came: none where `bytes` has no room for n. What comes, and how much of it, is not
-// promised: `io::read_full` says nothing of that.
+// Reads the next n bytes to the start of `bytes`, and says how many came: none where `bytes` has no room for n. Of what comes, and how much,
+// nothing is promised, since `io::read_full` says nothing of it.
 pub fn read(bytes: &mut [u8], n: usize) -> usize
     ensures { λ r. ⌜ Counts r (now (bytes .exit)) ⌝ }
     ensures { λ r. ⌜ (r ≤ n) × (drop n (now (bytes .exit)) ≡ drop n (now (bytes .entry))) ⌝ }

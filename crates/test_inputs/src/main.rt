@@ -9,6 +9,7 @@ ghost use mathlib.Core.Path.{_≡_};
 ghost use Rattle.receptions.specs.Receptions.{receptionBytes, receptionAt, fieldsOf};
 use cases::Tally;
 use inputs::Check;
+use inputs::Fault;
 use inputs::Given;
 use libc::STDOUT_FILENO;
 use receptions::Fields;
@@ -43,6 +44,17 @@ fn unpacked(bytes: &[u8], n: usize) -> Fields
     receptions::of_bytes(bytes, 0)
 }
 
+// Whether the header has this refusal.
+fn expects_refusal(header: &[u8; 64], fault: Fault) -> bool {
+    words::u64_at(header, 32) == inputs::number_of(fault) as u64
+        && words::u64_at(header, 40) == inputs::detail_of(fault) as u64
+}
+
+// Whether it has a problem of n receptions.
+fn expects_problem(header: &[u8; 64], n: usize) -> bool {
+    words::u64_at(header, 32) == 0 && words::u64_at(header, 48) == n as u64
+}
+
 // Whether the inputs get the answer that is expected of them.
 fn answers(
     receptions: &[u8],
@@ -52,24 +64,15 @@ fn answers(
     reference: &[u8],
     header: &[u8; 64],
 ) -> bool {
-    let number = words::u64_at(header, 32);
     let n = receptions.len() / 64;
     let whole = receptions.len() % 64 == 0;
     let f = unpacked(receptions, n);
     let check = inputs::check_inputs(f, whole, n, g, clock, altitude, reference);
     match check {
-        Check::Refused(fault) => {
-            if number != inputs::number_of(fault) as u64 {
-                return false;
-            }
-            words::u64_at(header, 40) == inputs::detail_of(fault) as u64
-        }
+        Check::Refused(fault) => expects_refusal(header, fault),
         Check::Passed => {
-            if number != 0 {
-                return false;
-            }
             let problem = inputs::problem_of(f, n, g, clock, altitude, reference);
-            words::u64_at(header, 48) == problem.n as u64
+            expects_problem(header, problem.n)
         }
     }
 }
