@@ -1,10 +1,11 @@
-//! examples OUT: the example folders of the repository, each with its files and the original's record. Six stations about Lake Constance hear an aircraft that reports its
-//! barometric altitude; in the second folder one station is 2 km late; in the third only three stations hear it, and two places fit alike.
+//! examples OUT SOLVE: the example folders of the repository, each with its files and the original's record. Six stations about Lake Constance hear an aircraft that reports its
+//! barometric altitude; in the second folder one station is 2 km late; in the third only three stations hear it, and two places fit alike. The crate SOLVE gets what its program
+//! is run on: the files of the second folder without the reference, so that an absent file is tried too.
 
 use oracle::geo::Geodetic;
 use oracle::random::Random;
 use oracle::record;
-use oracle::scene::Scene;
+use oracle::scene::{Files, Scene};
 use oracle::sky;
 
 /// Latitude, longitude and height of each station.
@@ -35,25 +36,39 @@ fn scene(stations: &[[f64; 3]], aircraft: [f64; 3], late: &[f64]) -> Scene {
     }
 }
 
+/// Those files of a problem that are there, in a folder.
+fn write(folder: &str, files: &Files) {
+    std::fs::create_dir_all(folder).expect("a folder");
+    let all = [("receptions", &files.receptions), ("clock", &files.clock), ("altitude", &files.altitude), ("reference", &files.reference)];
+    for (name, file) in all {
+        if let Some(bytes) = file {
+            std::fs::write(format!("{folder}/{name}.bin"), bytes).expect("a file");
+        }
+    }
+}
+
 fn main() {
-    let out = std::env::args().nth(1).expect("examples OUT");
+    let words: Vec<String> = std::env::args().skip(1).collect();
+    let [out, solve] = words.as_slice() else {
+        panic!("examples OUT SOLVE");
+    };
     let aircraft = [47.58, 9.32, 11_310.0];
     let folders = [
         ("fix", 0, scene(&STATIONS, aircraft, &[0.0; 6])),
         ("outlier", 0, scene(&STATIONS, aircraft, &[0.0, 0.0, 0.0, 2_000.0, 0.0, 0.0])),
         ("ambiguous", 8, scene(&STATIONS[..3], [46.90, 9.00, 11_310.0], &[0.0; 3])),
     ];
-    for (name, wanted, scene) in folders {
+    for (name, wanted, scene) in &folders {
         let files = scene.files();
         let (answer, record) = record::record(&files);
-        assert_eq!(answer, wanted, "{name}");
+        assert_eq!(answer, *wanted, "{name}");
         let folder = format!("{out}/{name}");
-        std::fs::create_dir_all(&folder).expect("a folder");
-        let all = [("receptions", files.receptions), ("clock", files.clock), ("altitude", files.altitude), ("reference", files.reference), ("record", Some(record.to_vec()))];
-        for (file, bytes) in all {
-            std::fs::write(format!("{folder}/{file}.bin"), bytes.expect("it is there")).expect("a file");
-        }
+        write(&folder, &files);
+        std::fs::write(format!("{folder}/record.bin"), record).expect("a file");
         let mask = u32::from_le_bytes([record[12], record[13], record[14], record[15]]);
         println!("{folder}: answer {answer}, used {mask:08x}");
     }
+    let files = Files { reference: None, ..folders[1].2.files() };
+    write(&format!("{solve}/data"), &files);
+    std::fs::write(format!("{solve}/stdout"), record::record(&files).1).expect("a file");
 }
