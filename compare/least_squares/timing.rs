@@ -85,7 +85,7 @@ fn print(n: usize, with_altitude: bool, what: &str, calls: usize, times: impl It
     let all = times.fold((0.0, 0.0), |sum, of| (sum.0 + of.0, sum.1 + of.1));
     let altitude = if with_altitude { "with altitude" } else { "without altitude" };
     let (rust, port) = (all.0 / calls as f64, all.1 / calls as f64);
-    println!("n = {n:<3} {altitude:<18} {what:<20} {rust:>8.0} ns {port:>8.0} ns  ratio {:.2}", port / rust);
+    println!("n = {n:<3} {altitude:<18} {what:<20} port {port:>8.0} ns, Rust {rust:>8.0} ns, ratio {:.2}", port / rust);
 }
 
 pub fn main() {

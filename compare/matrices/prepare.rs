@@ -6,7 +6,7 @@ const REPLACEMENTS: [(&str, &str, usize, &str); 2] = [
         ".sum()",
         ".fold(0.0f64, |sum, value| sum + value)",
         5,
-        "sums start from plus zero; `sum` of newer Rust starts from minus zero",
+        "sums start from plus zero; `sum` of this Rust starts from minus zero",
     ),
     (
         "    n: usize,\n    l: Vec<f64>,\n",

@@ -31,11 +31,8 @@ fn lines(n: usize, what: &str, times: [f64; 3]) {
     line(n, what, "methods", rust, methods);
 }
 
-fn line(n: usize, what: &str, port: &str, rust: f64, time: f64) {
-    println!(
-        "n = {n:<3} {what:<17} {port:<18} {rust:>8.0} ns {time:>8.0} ns  ratio {:.2}",
-        time / rust
-    );
+fn line(n: usize, what: &str, way: &str, rust: f64, port: f64) {
+    println!("n = {n:<3} {what:<17} {way:<18} port {port:>8.0} ns, Rust {rust:>8.0} ns, ratio {:.2}", port / rust);
 }
 
 fn factor_and_solve(n: usize, calls: usize, a: &Matrix, b: &[f64]) {

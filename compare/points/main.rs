@@ -156,7 +156,7 @@ fn times() {
         let port = least(calls, || {
             black_box(port(black_box(&chosen), None, 1, metres));
         });
-        println!("{n:>2} receptions: {rust:>8.0} ns, port {port:>8.0} ns, ratio {:.2}", port / rust);
+        println!("n = {n:<3} port {port:>8.0} ns, Rust {rust:>8.0} ns, ratio {:.2}", port / rust);
     }
 }
 
