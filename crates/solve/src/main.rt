@@ -49,7 +49,7 @@ fn closed(fd: i32, path: &[u8]) -> bool {
     read
 }
 
-// Nothing of a file that is not open.
+// The part that is read of a file which is ABSENT or CLOSED: none.
 fn missing(fd: i32) -> Part
     ensures { λ r. ⌜ r .n ≡ 0 ⌝ }
 {
