@@ -21,7 +21,7 @@ use Rattle.damped.specs.declared.Lm.{Lm}
 use Rattle.damped.specs.declared.Stepped.{Stepped}
 use Rattle.damped.specs.declared.Verdict.the-variants.{Accepted, Converged, Rejected, Stopped, Failed}
 use Rattle.damped.specs.Damped.{dampedTo, solved, descent, moved, below, small, better, accepted, rejected, step, fitted, unfitted, plain, after, run, started, levenbergMarquardt}
-use Rattle.damped.proofs.Squares.{clear, add-clear, square-clear}
+use Rattle.damped.proofs.Squares.{clear, add-clear, square-clear, add-none, none-add}
 
 -- ---- sums of squares
 
@@ -36,16 +36,6 @@ unfolding mul
 mul-none f nan = refl
 mul-none f (inf s) = refl
 mul-none f (fin s m e) = refl
-
-add-none : (f : Format) (x : Float) → add f x nan ≡ nan
-unfolding add
-add-none f nan = refl
-add-none f (inf s) = refl
-add-none f (fin s m e) = refl
-
-none-add : (f : Format) (y : Float) → add f nan y ≡ nan
-unfolding add
-none-add f y = refl
 
 -- the cost is clear, or the gradient along the transmit time is no number
 abbrev Fine : Float → List Float → Type 0

@@ -60,13 +60,14 @@ none-square : mul binary64 nan nan ≡ nan
 unfolding mul
 none-square = refl
 
-add-none : (f : Format) (x : Float) → add f x nan ≡ nan
+-- a sum with a not-a-number is one
+pub add-none : (f : Format) (x : Float) → add f x nan ≡ nan
 unfolding add
 add-none f nan = refl
 add-none f (inf s) = refl
 add-none f (fin s m e) = refl
 
-none-add : (f : Format) (y : Float) → add f nan y ≡ nan
+pub none-add : (f : Format) (y : Float) → add f nan y ≡ nan
 unfolding add
 none-add f y = refl
 
