@@ -45,7 +45,6 @@ lifted-four sites z k ground height = refl
 
 module _ (u v centroid : List Float) where
   place-four : (l : Float) → Four (placeAt u v centroid l)
-  unfolding placeAt
   place-four l = refl
 
   places-four : (ls : List Float) → Fours (places u v centroid ls)

@@ -14,7 +14,7 @@ use Rattle.problem.specs.Problem.{siteAt}
 use Rattle.whitening.specs.Normal.{plusProducts, plusMultiple}
 
 -- `lorentz`
-unfoldable pub lorentz : List Float → List Float → Float
+abbrev pub lorentz : List Float → List Float → Float
 lorentz a b = nth a 0 ⊗ nth b 0 ⊕ nth a 1 ⊗ nth b 1 ⊕ nth a 2 ⊗ nth b 2 ⊖ nth a 3 ⊗ nth b 3
 
 module _ (sites z centroid : List Float) where
@@ -49,7 +49,7 @@ allFinite params = isFinite (nth params 0) && (isFinite (nth params 1) && (isFin
 
 module _ (u v centroid : List Float) where
   -- the parameters of a root
-  unfoldable pub placeAt : Float → List Float
+  abbrev pub placeAt : Float → List Float
   placeAt lambda =
       let at : ℕ → Float = λ i. lambda ⊗ nth u i ⊕ nth v i in (at 0 ⊕ nth centroid 0) ∷ (at 1 ⊕ nth centroid 1) ∷ (at 2 ⊕ nth centroid 2) ∷ at 3 ∷ []
 
