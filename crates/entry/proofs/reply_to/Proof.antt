@@ -33,8 +33,9 @@ enum-told c = search needs
 
 problem-of-requires : tie.Need-problem-of-requires
 problem-of-requires c κs =
-    let e : checkInputs (lent ((c .before .before .before .before .before .before .before)) (c .before .before .before .given .result)) ≡ Passed = sym (c .before .before .check-inputs .ensures) ∙ is-passed (c .before .before .check-inputs .result) (c .before .match .keys2) in
-    (c .before .before .before .before .before .before .before .pre (few _ e), came-whole (lent ((c .before .before .before .before .before .before .before)) (c .before .before .before .given .result)) e)
+    let s = c .before .before .before .before .before .before .before in
+    let e : checkInputs (lent s (c .before .before .before .given .result)) ≡ Passed = sym (c .before .before .check-inputs .ensures) ∙ is-passed (c .before .before .check-inputs .result) (c .before .match .keys2) in
+    (s .pre (few _ e), came-whole (lent s (c .before .before .before .given .result)) e)
 
 cast-answered : tie.Need-cast-answered
 cast-answered c = record { fits = let h = few (lent ((c .before .before .before .before .before .before .before .before)) (c .before .before .before .before .given .result)) (sym (c .before .before .before .check-inputs .ensures) ∙ is-passed (c .before .before .before .check-inputs .result) (c .before .before .match .keys2)) in omega arith }

@@ -25,8 +25,9 @@ same-length c = search needs
 
 returns : tie.Need-returns
 returns c =
-    solved (c .before .before .before .before .of-bytes .result) _ (receptionAt (c .before .before .before .before .before .before .before .before .before .before .before .args .receptions .now)) (λ h. c .before .before .before .before .of-bytes .ensures ∙ ap (fieldsOf (receptionAt (c .before .before .before .before .before .before .before .before .before .before .before .args .receptions .now))) (few-all _ _ (c .before .before .before .before .before .few .ensures) h))
-    _ (given (c .before .before .before .before .before .before .before .before .before .before .before .args .present)) (c .before .before .before .before .before .before .before .before .before .before .before .args .clock .now) (c .before .before .before .before .before .before .before .before .before .before .before .args .altitude .now) (c .before .before .before .before .before .before .before .before .before .before .before .args .reference .now) (c .before .before .before .before .before .before .before .before .before .before .before .args .out .now) _ (c .before .before .solve-fields .result) (c .before .before .solve-fields .ensures)
+    let s = c .before .before .before .before .before .before .before .before .before .before .before in
+    solved (c .before .before .before .before .of-bytes .result) _ (receptionAt (s .args .receptions .now)) (λ h. c .before .before .before .before .of-bytes .ensures ∙ ap (fieldsOf (receptionAt (s .args .receptions .now))) (few-all _ _ (c .before .before .before .before .before .few .ensures) h))
+    _ (given (s .args .present)) (s .args .clock .now) (s .args .altitude .now) (s .args .reference .now) (s .args .out .now) _ (c .before .before .solve-fields .result) (c .before .before .solve-fields .ensures)
 
 pub solve-spec : {M : Type 1} → statement M
 solve-spec =

@@ -30,11 +30,12 @@ same-length c = search needs
 
 returns-2 : tie.Need-returns-2
 returns-2 c =
-    let whole : length (c .before .before .before .before .before .reply-to .result .bytes) ≡ 176 = search needs in (
-      rw (le-ltb (length (c .before .before .before .before .before .before .before .before .before .before .before .args .out .now)) 176 (c .before .before .before .before .before .before .if1 .left)) (ap (λ (r : Reply). r .number) (c .before .before .before .before .before .reply-to .ensures)),
+    let whole : length (c .before .before .before .before .before .reply-to .result .bytes) ≡ 176 = search needs in
+    let s = c .before .before .before .before .before .before .before .before .before .before .before in (
+      rw (le-ltb (length (s .args .out .now)) 176 (c .before .before .before .before .before .before .if1 .left)) (ap (λ (r : Reply). r .number) (c .before .before .before .before .before .reply-to .ensures)),
       (
-        rw (le-ltb (length (c .before .before .before .before .before .before .before .before .before .before .before .args .out .now)) 176 (c .before .before .before .before .before .before .if1 .left)) (c .before .before .store .ensures ∙ ap (λ (r : Reply). stored (c .before .before .before .before .before .before .before .before .before .before .before .args .out .now) (r .bytes)) (c .before .before .before .before .before .reply-to .ensures)),
-        λ p l. written (lent ((c .before .before .before .before .before .before .before .before .before .before .before))) p (c .before .before .before .before .before .reply-to .result) (c .before .before .before .before .before .before .before .before .before .before .before .args .out .now) _ (c .before .before .before .before .before .reply-to .ensures) whole (c .before .before .store .ensures),
+        rw (le-ltb (length (s .args .out .now)) 176 (c .before .before .before .before .before .before .if1 .left)) (c .before .before .store .ensures ∙ ap (λ (r : Reply). stored (s .args .out .now) (r .bytes)) (c .before .before .before .before .before .reply-to .ensures)),
+        λ p l. written (lent s) p (c .before .before .before .before .before .reply-to .result) (s .args .out .now) _ (c .before .before .before .before .before .reply-to .ensures) whole (c .before .before .store .ensures),
       ),
     )
 

@@ -34,8 +34,9 @@ later-requires-2 c κs = search needs
 returns-2 : tie.Need-returns-2
 unfolding ofBits neg
 returns-2 c =
+    let s = c .before .before .before .before .before .before in
     let r = c .before .before .before .before .before .round .result in
-    by-cast (c .before .before .before .before .before .before .args .reference) (pos (toUnsigned 64 r)) (c .before .before .before .before .before .before .args .t) r (c .later2 .result) (c .before .before .before .before .before .round .ensures) (cast-up r (c .before .before .before .if2 .taken) (c .before .before .if3 .taken)) (rw (same (c .before .before .before .before .before .before), c .before .truncating-f64-to-u64 .ensures) at (c .later2 .ensures))
+    by-cast (s .args .reference) (pos (toUnsigned 64 r)) (s .args .t) r (c .later2 .result) (c .before .before .before .before .before .round .ensures) (cast-up r (c .before .before .before .if2 .taken) (c .before .before .if3 .taken)) (rw (same s, c .before .truncating-f64-to-u64 .ensures) at (c .later2 .ensures))
 
 beyond-requires : tie.Need-beyond-requires
 beyond-requires c κs = search needs
@@ -43,9 +44,10 @@ beyond-requires c κs = search needs
 returns-3 : tie.Need-returns-3
 unfolding ofBits neg
 returns-3 c =
+    let s = c .before .before .before .before .before in
     let r = c .before .before .before .before .round .result in
     let far = cast-high r (c .before .before .if2 .taken) (c .before .if3 .left) in
-    c .beyond .ensures ∙ by-cast (c .before .before .before .before .before .args .reference) (pos (far .0)) (c .before .before .before .before .before .args .t) r beyond (c .before .before .before .before .round .ensures) (far .1) (far-later (c .before .before .before .before .before .args .reference) (far .0) (c .before .before .before .before .before .fits .reference .sfits) (far .2))
+    c .beyond .ensures ∙ by-cast (s .args .reference) (pos (far .0)) (s .args .t) r beyond (c .before .before .before .before .round .ensures) (far .1) (far-later (s .args .reference) (far .0) (s .fits .reference .sfits) (far .2))
 
 truncating-f64-to-u64-requires-2 : tie.Need-truncating-f64-to-u64-requires-2
 unfolding ofBits neg
@@ -57,8 +59,9 @@ earlier-requires c κs = search needs
 returns-4 : tie.Need-returns-4
 unfolding ofBits neg
 returns-4 c =
+    let s = c .before .before .before .before .before .before in
     let r = c .before .before .before .before .before .round .result in
-    by-cast (c .before .before .before .before .before .before .args .reference) (negℤ (pos (toUnsigned 64 (neg r)))) (c .before .before .before .before .before .before .args .t) r (c .earlier .result) (c .before .before .before .before .before .round .ensures) (cast-down r (c .before .before .before .before .if1 .left) (c .before .before .before .if2 .left) (c .before .before .if4 .taken)) (rw (same (c .before .before .before .before .before .before), c .before .truncating-f64-to-u642 .ensures) at (c .earlier .ensures))
+    by-cast (s .args .reference) (negℤ (pos (toUnsigned 64 (neg r)))) (s .args .t) r (c .earlier .result) (c .before .before .before .before .before .round .ensures) (cast-down r (c .before .before .before .before .if1 .left) (c .before .before .before .if2 .left) (c .before .before .if4 .taken)) (rw (same s, c .before .truncating-f64-to-u642 .ensures) at (c .earlier .ensures))
 
 beyond-requires-2 : tie.Need-beyond-requires-2
 beyond-requires-2 c κs = search needs
@@ -66,9 +69,10 @@ beyond-requires-2 c κs = search needs
 returns-5 : tie.Need-returns-5
 unfolding ofBits neg
 returns-5 c =
+    let s = c .before .before .before .before .before in
     let r = c .before .before .before .before .round .result in
     let far = cast-low r (c .before .before .before .if1 .left) (c .before .before .if2 .left) (c .before .if4 .left) in
-    c .beyond2 .ensures ∙ by-cast (c .before .before .before .before .before .args .reference) (negℤ (pos (far .0))) (c .before .before .before .before .before .args .t) r beyond (c .before .before .before .before .round .ensures) (far .1) (far-earlier (c .before .before .before .before .before .args .reference) (far .0) (c .before .before .before .before .before .fits .reference .sfits) (far .2))
+    c .beyond2 .ensures ∙ by-cast (s .args .reference) (negℤ (pos (far .0))) (s .args .t) r beyond (c .before .before .before .before .round .ensures) (far .1) (far-earlier (s .args .reference) (far .0) (s .fits .reference .sfits) (far .2))
 
 pub transmit-spec : {M : Type 1} → statement M
 transmit-spec =

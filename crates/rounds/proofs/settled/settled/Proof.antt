@@ -29,7 +29,8 @@ dof-requires c κs = search needs
 limit-requires : tie.Need-limit-requires
 limit-requires c κs =
     let s = c .before .before .before .before .before .before .before .before .before .before .before .before .before .before in
-    subset-fits (s .args .site .now) (s .args .z .now) (s .args .n) (has (s .args .included)) (c .before .before .before .before .before .before .before .before .before .before .before .before .before .subset .result) (c .before .before .before .before .before .before .before .before .before .before .before .before .before .subset .ensures) (s .pre .0) .0
+    let subset = c .before .before .before .before .before .before .before .before .before .before .before .before .before .subset in
+    subset-fits (s .args .site .now) (s .args .z .now) (s .args .n) (has (s .args .included)) (subset .result) (subset .ensures) (s .pre .0) .0
 
 withheld-requires : tie.Need-withheld-requires
 withheld-requires c κs = search needs
@@ -37,7 +38,9 @@ withheld-requires c κs = search needs
 returns : tie.Need-returns
 returns c =
     let s = c .before .before .before .before .before .before .before .before .before .before .before .before .before .before .before .before .before .before in
-    c .withheld .ensures ∙ ap asFinished (late-inconsistent (heard s) (s .args .reference-ps) (s .args .included) (s .pre .1) (s .pre .0) (s .args .fit) (c .before .before .before .before .before .before .before .before .before .before .before .before .before .before .before .before .before .subset .result) (c .before .before .before .before .before .before .before .before .before .before .before .before .before .before .before .before .before .subset .ensures) _ (rw (c .before .before .before .before .before .before .before .before .before .before .if1 .taken) at (c .before .before .before .before .before .before .before .before .before .before .before .whitener .ensures)) (c .before .before .before .before .before .before .before .before .before .dof .result) (c .before .before .before .before .before .before .before .before .before .dof .ensures) (c .before .before .before .limit .result) (c .before .before .before .limit .ensures) (c .before .if2 .taken))
+    let subset = c .before .before .before .before .before .before .before .before .before .before .before .before .before .before .before .before .before .subset in
+    let free = c .before .before .before .before .before .before .before .before .before .dof in
+    c .withheld .ensures ∙ ap asFinished (late-inconsistent (heard s) (s .args .reference-ps) (s .args .included) (s .pre .1) (s .pre .0) (s .args .fit) (subset .result) (subset .ensures) _ (rw (c .before .before .before .before .before .before .before .before .before .before .if1 .taken) at (c .before .before .before .before .before .before .before .before .before .before .before .whitener .ensures)) (free .result) (free .ensures) (c .before .before .before .limit .result) (c .before .before .before .limit .ensures) (c .before .if2 .taken))
 
 finish-requires : tie.Need-finish-requires
 finish-requires c κs = search needs
@@ -45,7 +48,9 @@ finish-requires c κs = search needs
 returns-2 : tie.Need-returns-2
 returns-2 c =
     let s = c .before .before .before .before .before .before .before .before .before .before .before .before .before .before .before .before .before .before in
-    (rw (toZ-ofZ w64 (s .args .reference-ps) (s .fits .reference-ps)) at (c .finish .ensures)) ∙ ap asFinished (late-finish (heard s) (s .args .reference-ps) (s .args .included) (s .pre .1) (s .pre .0) (s .args .fit) (c .before .before .before .before .before .before .before .before .before .before .before .before .before .before .before .before .before .subset .result) (c .before .before .before .before .before .before .before .before .before .before .before .before .before .before .before .before .before .subset .ensures) _ (rw (c .before .before .before .before .before .before .before .before .before .before .if1 .taken) at (c .before .before .before .before .before .before .before .before .before .before .before .whitener .ensures)) (c .before .before .before .before .before .before .before .before .before .dof .result) (c .before .before .before .before .before .before .before .before .before .dof .ensures) (c .before .before .before .limit .result) (c .before .before .before .limit .ensures) (c .before .if2 .left))
+    let subset = c .before .before .before .before .before .before .before .before .before .before .before .before .before .before .before .before .before .subset in
+    let free = c .before .before .before .before .before .before .before .before .before .dof in
+    (rw (toZ-ofZ w64 (s .args .reference-ps) (s .fits .reference-ps)) at (c .finish .ensures)) ∙ ap asFinished (late-finish (heard s) (s .args .reference-ps) (s .args .included) (s .pre .1) (s .pre .0) (s .args .fit) (subset .result) (subset .ensures) _ (rw (c .before .before .before .before .before .before .before .before .before .before .if1 .taken) at (c .before .before .before .before .before .before .before .before .before .before .before .whitener .ensures)) (free .result) (free .ensures) (c .before .before .before .limit .result) (c .before .before .before .limit .ensures) (c .before .if2 .left))
 
 withheld-requires-2 : tie.Need-withheld-requires-2
 withheld-requires-2 c κs = search needs
@@ -53,7 +58,8 @@ withheld-requires-2 c κs = search needs
 returns-3 : tie.Need-returns-3
 returns-3 c =
     let s = c .before .before .before .before .before .before .before .before .before in
-    c .withheld2 .ensures ∙ ap asFinished (late-singular (heard s) (s .args .reference-ps) (s .args .included) (s .pre .1) (s .pre .0) (s .args .fit) (c .before .before .before .before .before .before .before .before .subset .result) (c .before .before .before .before .before .before .before .before .subset .ensures) _ (rw (c .before .if1 .left) at (c .before .before .whitener .ensures)))
+    let subset = c .before .before .before .before .before .before .before .before .subset in
+    c .withheld2 .ensures ∙ ap asFinished (late-singular (heard s) (s .args .reference-ps) (s .args .included) (s .pre .1) (s .pre .0) (s .args .fit) (subset .result) (subset .ensures) _ (rw (c .before .if1 .left) at (c .before .before .whitener .ensures)))
 
 pub settled-spec : {M : Type 1} → statement M
 settled-spec =
