@@ -1,20 +1,15 @@
 -- The outlier rule over an array of residuals: its loops, and that it comes to the same over residuals that are equal. Assumes nothing.
 use mathlib.Core.Path.{_≡_, sym, ap, ap₂, subst, _∙_}
-use mathlib.Core.Logic.{inl, inr}
 use mathlib.Core.Option.{Option}
 use mathlib.Core.Bool.{true, false, not, _&&_}
-use mathlib.Core.List.{List}
 use Prim.Native.Nat.{ℕ, _+_, _<_}
 use native.Mathlib.Omega.{arith}
 use native.Mathlib.Numerals.{add-one}
 use lib.Dec.{T, ltb, lt→ltb}
-use lib.ListN.{length, getD, set}
-use lib.Seq.{getD-set-same, getD-set-other}
 use lib.Ieee.{Float, nan, lt, le, ne, isNan}
 use lib.Ieee.Compare.{differs-from-itself}
-use Rattle.dense.specs.Entries.{nth}
 use Rattle.sets.specs.Sets.{Subset, count}
-use Rattle.sets.proofs.Tests.{T→eq, eq→T, same-T, lt-suc-cases}
+use Rattle.sets.proofs.Tests.{T→eq, eq→T, same-T}
 use Rattle.sets.proofs.Counting.{count-same, count-pos}
 use Rattle.best.proofs.Cheapest.{same-choice}
 use Rattle.rounds.specs.Setting.{five}
@@ -41,13 +36,6 @@ one-found q i n l e = sym (T→eq (ltb 0 (count q n)) (lt→ltb 0 (count q n) (c
 
 pub none-found : (q : Subset) (n : ℕ) → count q n ≡ 0 → false ≡ ltb 0 (count q n)
 none-found q n e = sym (ap (ltb 0) e)
-
--- ---- an array that holds f below i, with f i put at i
-pub put-next : (f : ℕ → Float) (out : List Float) (i : ℕ) (x : Float) → i < length out → ((j : ℕ) → j < i → nth out j ≡ f j) → x ≡ f i → (j : ℕ) → j < i + 1 → nth (set out i x) j ≡ f j
-put-next f out i x l h e j k = elim (lt-suc-cases j i (omega arith)) [
-  | inl q ↦ ap (λ (m : ℕ). getD (set out i x) m nan) q ∙ getD-set-same out i x nan l ∙ e ∙ ap f (sym q)
-  | inr q ↦ getD-set-other out i j x nan (λ d. omega arith) ∙ h j q
-]
 
 -- ---- the rule, by residuals that are equal below n
 pub decided-same : {F : Type 0} (K S : Subset) (z y : ℕ → Float) (n : ℕ) (f : F) → ((j : ℕ) → j < n → z j ≡ y j) → decided K S z n f ≡ decided K S y n f

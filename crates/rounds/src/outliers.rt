@@ -3,10 +3,13 @@ ghost use mathlib.Core.Path.{_≡_};
 ghost use mathlib.Core.Bool.{cond, _&&_, _||_};
 ghost use Prim.Native.Nat.{ℕ, _≤_, _<_, _^_};
 ghost use lib.Dec.{leb};
+ghost use lib.ListN.{replicate};
+ghost use Rattle.binary64.specs.Steps.{nought};
 ghost use Rattle.dense.specs.Entries.{nth};
 ghost use Rattle.sets.specs.Mask.{has};
 ghost use Rattle.sets.specs.Choice.{indexOf};
 ghost use Rattle.problem.specs.declared.Altitude.{Altitude};
+ghost use Rattle.whitening.specs.Whitened.{fillTo};
 ghost use Rattle.damped.specs.declared.Fit as fit;
 ghost use Rattle.best.specs.OfProblem.{receptions};
 ghost use Rattle.rounds.specs.declared.outliers.Turn.the-variants.{Changes};
@@ -41,7 +44,7 @@ fn normalised(
     binary64::abs(raw) / whitening::sigma(clock, n, noise, i)
 }
 
-// Those of all n.
+// Those of all n, in an array of zeros.
 pub fn residuals(
     site: &[f64; 96],
     z: &[f64; 32],
@@ -51,7 +54,7 @@ pub fn residuals(
     params: [f64; 4],
 ) -> [f64; 32]
     requires { ⌜ n ≤ 32 ⌝ }
-    ensures { λ r. ⌜ ((altitude : Altitude) (j : ℕ) → j < n → nth r j ≡ normalised (receptions (now (site .entry)) (now (z .entry)) (now (noise .entry)) (now (clock .entry)) n altitude) params j) ⌝ }
+    ensures { λ r. ⌜ ((altitude : Altitude) → r ≡ fillTo (normalised (receptions (now (site .entry)) (now (z .entry)) (now (noise .entry)) (now (clock .entry)) n altitude) params) (replicate 32 nought) n) ⌝ }
 {
     let mut out = [0.0; 32];
     for i in 0..n {

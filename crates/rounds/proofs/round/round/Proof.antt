@@ -1,8 +1,14 @@
 -- `rounds::round::round` meets its contract. Each test picks the definition's case (Turns.antt). Assumes nothing.
 use borrow.Author.Needs.{needs}
 use mathlib.Core.Path.{_≡_, sym, ap, _∙_}
+use mathlib.Core.List.{List}
 use Prim.Native.Nat.{ℕ}
 use native.Mathlib.Omega.{arith}
+use lib.ListN.{replicate}
+use lib.Ieee.{Float}
+use Rattle.binary64.specs.Steps.{nought}
+use Rattle.dense.specs.Entries.{nth}
+use Rattle.whitening.proofs.Costs.{fill-at}
 use Rattle.best.specs.OfProblem.{Receptions, receptions}
 use Rattle.rounds.specs.declared.answer.Refusal.{Refusal}
 use Rattle.rounds.specs.declared.outliers.Turn.the-variants.{Ends, Changes}
@@ -50,8 +56,9 @@ returns-2 : tie.Need-returns-2
 returns-2 c =
     let s = c .before .before .before .before .before .before .before .before .before .before in
     let n = c .before .before .before .before .before .before .before .before .before .count in
-    let best = c .before .before .before .before .before .before .fit-included in (
-      λ bad reference h. round-fitted (heard s) bad reference (s .pre .0) (s .args .state .included) (s .pre .1) (before (s .args .state)) (n .result) (n .ensures) (rw (c .before .before .before .before .before .before .before .before .minimum .ensures) at (c .before .before .before .before .before .before .before .if1 .left)) (best .result) (best .ensures) (c .before .before .before .before .before .if2 .taken) (s .args .kept) h (c .before .before .residuals .result) (c .before .before .residuals .ensures (s .args .altitude)) (c .decided .result) (c .decided .ensures .0 (best .result .fit)),
+    let best = c .before .before .before .before .before .before .fit-included in
+    let at = c .before .before .residuals in (
+      λ bad reference h. round-fitted (heard s) bad reference (s .pre .0) (s .args .state .included) (s .pre .1) (before (s .args .state)) (n .result) (n .ensures) (rw (c .before .before .before .before .before .before .before .before .minimum .ensures) at (c .before .before .before .before .before .before .before .if1 .left)) (best .result) (best .ensures) (c .before .before .before .before .before .if2 .taken) (s .args .kept) h (at .result) (λ j l. ap (λ (v : List Float). nth v j) (at .ensures (s .args .altitude)) ∙ fill-at _ (replicate 32 nought) (s .args .n) j (s .pre .0) l) (c .decided .result) (c .decided .ensures .0 (best .result .fit)),
       c .decided .ensures .1,
     )
 
