@@ -14,7 +14,7 @@ use oracle::trace::trace;
 use std::hint::black_box;
 
 /// Runs of all problems of a class, of which the least time counts.
-const RUNS: usize = 9;
+const RUNS: usize = 50;
 
 /// Receptions, with altitude or without, outliers.
 const CLASSES: [(usize, bool, usize); 12] = [
@@ -50,12 +50,17 @@ fn now() -> f64 {
     time.seconds as f64 * 1e9 + time.nanoseconds as f64
 }
 
-fn least(problems: usize, mut run: impl FnMut(usize)) -> f64 {
-    (0..RUNS).fold(f64::INFINITY, |best, _| {
-        let start = now();
-        (0..problems).for_each(&mut run);
-        best.min((now() - start) / problems as f64)
-    })
+/// The least time a problem of either side. They take turns, so that a slow moment of the machine meets both.
+fn least(problems: usize, mut sides: [&mut dyn FnMut(usize); 2]) -> [f64; 2] {
+    let mut best = [f64::INFINITY; 2];
+    for _ in 0..RUNS {
+        for (side, best) in sides.iter_mut().zip(&mut best) {
+            let start = now();
+            (0..problems).for_each(|k| side(k));
+            *best = best.min((now() - start) / problems as f64);
+        }
+    }
+    best
 }
 
 /// Problems of a class that give a fix, the two late receptions left out.
@@ -84,12 +89,17 @@ fn main() {
         let files: Vec<Files> = scenes.iter().map(Scene::files).collect();
         let problems: Vec<Problem> = scenes.iter().map(Scene::problem).collect();
         let mut out = [0; record::LENGTH];
-        let port = least(count, |k| {
-            black_box(port_solve::solve(&files[k], &[], 0, &mut out));
-        });
-        let rust = least(count, |k| {
-            black_box(solve_problem(&problems[k]).is_ok());
-        });
+        let [port, rust] = least(
+            count,
+            [
+                &mut |k| {
+                    black_box(port_solve::solve(&files[k], &[], 0, &mut out));
+                },
+                &mut |k| {
+                    black_box(solve_problem(&problems[k]).is_ok());
+                },
+            ],
+        );
         worst = worst.max(port / rust);
         let altitude = if with_altitude { "altitude" } else { "" };
         let late = if outliers > 0 { ", two outliers" } else { "" };
