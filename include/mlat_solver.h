@@ -10,6 +10,37 @@
 extern "C" {
 #endif
 
+/* Why a call gives nothing (docs/GUIDE.md says what to do about each): document 01 has 1 to 15, document 02 16 to 24. 0 is a fix, or a call
+   that was answered. The list is crates/refusals. */
+enum mlat_refusal {
+    MLAT_TOO_FEW = 1,
+    MLAT_NO_CONVERGENCE = 2,
+    MLAT_OUT_OF_RANGE = 3,
+    MLAT_NO_FIXED_POINT = 4,
+    MLAT_INCONSISTENT = 5,
+    MLAT_SINGULAR = 6,
+    MLAT_UNCOVERED = 7,
+    MLAT_AMBIGUOUS = 8,
+    MLAT_UNCERTAIN = 9,
+    MLAT_TOO_MANY = 10,
+    MLAT_DISORDER = 11,
+    MLAT_BAD_FIELD = 12,
+    MLAT_CLOCK_SIZE = 13,
+    MLAT_SHORT_OUTPUT = 14,
+    MLAT_TORN_INPUT = 15,
+    MLAT_TORN_FILE = 16,
+    MLAT_NO_SUCH_PLACE = 17,
+    MLAT_MALFORMED_RECORD = 18,
+    MLAT_BEYOND_THE_WIRE = 19,
+    MLAT_UNEQUAL_MIRROR = 20,
+    MLAT_WRONG_SIZE = 21,
+    MLAT_BAD_QUERY = 22,
+    MLAT_BEYOND_THE_ITEMS = 23,
+    MLAT_OVER_SIX = 24
+};
+
+/* ---- numbers */
+
 /* The binary64 nearest the exact square root, ties to even. -0 gives -0, any other negative number a not-a-number, infinity infinity. */
 double mlat_sqrt(double x);
 
@@ -27,6 +58,8 @@ void mlat_sincos(double x, double pair[2]);
 double mlat_atan2(double y, double x);
 double mlat_hypot(double x, double y);
 
+/* ---- geodesy */
+
 /* WGS 84: latitude and longitude in degrees and height above the ellipsoid in metres, geodetic[0] to [2], to Earth-centred Earth-fixed metres,
    and back. Each entry of the array that is written is what geo.rs gives with fdlibm's functions, to the bit. */
 void mlat_to_ecef(const double geodetic[3], double ecef[3]);
@@ -39,6 +72,8 @@ void mlat_enu_basis(double lat_deg, double lon_deg, double basis[9]);
 void mlat_to_mm(const double ecef[3], int64_t mm[3]);
 void mlat_from_mm(const int64_t mm[3], double ecef[3]);
 
+/* ---- claims: what a fix claims of itself */
+
 /* The chi-square value that the residuals of an exact optimum with dof degrees of freedom may reach, by the steps of solve.rs; 0 for a dof of 0. */
 double mlat_chi2_limit(uint32_t dof);
 
@@ -46,6 +81,8 @@ double mlat_chi2_limit(uint32_t dof);
    standard deviation of the horizontal position, metres, which is the root of half the variance of east and north. By the steps of solve.rs. */
 void mlat_enu_covariance(const double position[3], const double covariance[9], double enu[9]);
 double mlat_horizontal_sigma_m(const double position[3], const double covariance[9]);
+
+/* ---- solve */
 
 /* Solves one transmission's problem from the bytes of the four files, receptions, clock, altitude and reference, each with its length, and writes
    the record of 176 bytes at the start of out. In `present` bit 0 says that there is a clock covariance, bit 1 an altitude, bit 2 a reference:

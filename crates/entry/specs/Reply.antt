@@ -5,6 +5,7 @@ use mathlib.Core.Bool.{true, cond}
 use mathlib.Core.List.{List}
 use lib.Dec.{eqb, ltb}
 use lib.ListN.{length, take}
+use Rattle.refusals.specs.Refusals.{shortOutput}
 use Rattle.sets.specs.Mask.{has}
 use Rattle.problem.specs.declared.Altitude.{Altitude}
 use Rattle.problem.specs.declared.Problem.{Problem}
@@ -64,7 +65,7 @@ reply I = replied (checkInputs I) I
 
 -- 14: "under 176 bytes lent"
 abbrev pub answer : Inputs → List ℕ → ℕ
-answer I out = cond (ltb (length out) 176) 14 (reply I .number)
+answer I out = cond (ltb (length out) 176) shortOutput (reply I .number)
 
 -- the output afterwards: for 14 nothing is written
 abbrev pub output : Inputs → List ℕ → List ℕ

@@ -52,13 +52,13 @@ fn number_of(why: Refusal) -> u32
     ensures { λ r. ⌜ r ≡ refusalNumber why ⌝ }
 {
     match why {
-        Refusal::TooFew(included) => 1,
-        Refusal::NoConvergence => 2,
-        Refusal::OutOfRange => 3,
-        Refusal::Inconsistent => 5,
-        Refusal::Singular => 6,
-        Refusal::Ambiguous => 8,
-        Refusal::Uncertain => 9,
+        Refusal::TooFew(included) => refusals::TOO_FEW,
+        Refusal::NoConvergence => refusals::NO_CONVERGENCE,
+        Refusal::OutOfRange => refusals::OUT_OF_RANGE,
+        Refusal::Inconsistent => refusals::INCONSISTENT,
+        Refusal::Singular => refusals::SINGULAR,
+        Refusal::Ambiguous => refusals::AMBIGUOUS,
+        Refusal::Uncertain => refusals::UNCERTAIN,
     }
 }
 
@@ -94,7 +94,7 @@ fn answered(n: u32, altitude: Altitude, answer: Answer) -> Reply
             Reply { number: 0, bytes }
         }
         Case::Refused(why) => refused(number_of(why), detail_of(why), n),
-        Case::NoFixedPoint => refused(4, 0, n),
+        Case::NoFixedPoint => refused(refusals::NO_FIXED_POINT, 0, n),
     }
 }
 
@@ -154,7 +154,7 @@ pub fn solve_fields(
     ensures demand { λ _. ⌜ (checkInputs (inputsOf whole n (receptionIn f) (reply.given present) (now (clock .entry)) (now (altitude .entry)) (now (reference .entry))) ≡ passed → 176 ≤ length (now (out .entry)) → reply.Demanded (problemOf (inputsOf whole n (receptionIn f) (reply.given present) (now (clock .entry)) (now (altitude .entry)) (now (reference .entry)))) (now (out .exit))) ⌝ }
 {
     if out.len() < RECORD {
-        return 14;
+        return refusals::SHORT_OUTPUT;
     }
     let r = reply_to(f, whole, n, clock, altitude, reference, present);
     let bytes = r.bytes;

@@ -1,6 +1,7 @@
 -- What the inputs are turned away for. Document 01, 'When there is no fix': number and detail of each, and checks in order. Definitions only.
 use mathlib.Core.Bool.{Bool, cond}
 use Prim.Native.Nat.{ℕ, zero, suc}
+use Rattle.refusals.specs.Refusals as refusals
 use Rattle.inputs.specs.declared.Fault.{Fault}
 use Rattle.inputs.specs.declared.Fault.the-variants.{TornInput, TooMany, Disorder, BadField, ClockSize, Uncovered}
 use Rattle.inputs.specs.declared.Check.{Check}
@@ -8,12 +9,12 @@ use Rattle.inputs.specs.declared.Check.the-variants.{Passed, Refused}
 
 -- the column 'No.'
 abbrev pub numberOf : Fault → ℕ
-numberOf Uncovered = 7
-numberOf TooMany = 10
-numberOf (Disorder i) = 11
-numberOf (BadField place) = 12
-numberOf ClockSize = 13
-numberOf TornInput = 15
+numberOf Uncovered = refusals.uncovered
+numberOf TooMany = refusals.tooMany
+numberOf (Disorder i) = refusals.disorder
+numberOf (BadField place) = refusals.badField
+numberOf ClockSize = refusals.clockSize
+numberOf TornInput = refusals.tornInput
 
 -- the column 'Detail'
 abbrev pub detailOf : Fault → ℕ

@@ -49,12 +49,12 @@ pub fn number_of(fault: Fault) -> u32
     ensures { λ r. ⌜ r ≡ faults.numberOf fault ⌝ }
 {
     match fault {
-        Fault::TornInput => 15,
-        Fault::TooMany => 10,
-        Fault::Disorder(i) => 11,
-        Fault::BadField(place) => 12,
-        Fault::ClockSize => 13,
-        Fault::Uncovered => 7,
+        Fault::TornInput => refusals::TORN_INPUT,
+        Fault::TooMany => refusals::TOO_MANY,
+        Fault::Disorder(i) => refusals::DISORDER,
+        Fault::BadField(place) => refusals::BAD_FIELD,
+        Fault::ClockSize => refusals::CLOCK_SIZE,
+        Fault::Uncovered => refusals::UNCOVERED,
     }
 }
 

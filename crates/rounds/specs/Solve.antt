@@ -5,6 +5,7 @@ use mathlib.Core.Option.{Option, none, some}
 use Prim.Native.Nat.{ℕ}
 use lib.IntN.{ℤ}
 use lib.Ieee.{Float, lt}
+use Rattle.refusals.specs.Refusals as refusals
 use Rattle.binary64.specs.Steps.{_⊘_, abs}
 use Rattle.dense.specs.Factor.{Factor, found, refused}
 use Rattle.sets.specs.Sets.{Subset, count}
@@ -103,18 +104,18 @@ asAnswer noFixedPoint = record { case = case.NoFixedPoint; fix = nothing }
 
 -- ---- document 01's numbers and details
 abbrev pub refusalNumber : Refusal → ℕ
-refusalNumber (TooFew included) = 1
-refusalNumber NoConvergence = 2
-refusalNumber OutOfRange = 3
-refusalNumber Inconsistent = 5
-refusalNumber Singular = 6
-refusalNumber Ambiguous = 8
-refusalNumber Uncertain = 9
+refusalNumber (TooFew included) = refusals.tooFew
+refusalNumber NoConvergence = refusals.noConvergence
+refusalNumber OutOfRange = refusals.outOfRange
+refusalNumber Inconsistent = refusals.inconsistent
+refusalNumber Singular = refusals.singular
+refusalNumber Ambiguous = refusals.ambiguous
+refusalNumber Uncertain = refusals.uncertain
 
 abbrev pub number : Answer Fix → ℕ
 number (fix x) = 0
 number (refused why) = refusalNumber why
-number noFixedPoint = 4
+number noFixedPoint = refusals.noFixedPoint
 
 abbrev pub refusalDetail : Refusal → ℕ
 refusalDetail (TooFew included) = included

@@ -1,9 +1,9 @@
--- `mlat_solver::mlat_enu_basis` meets its contract: the array has the nine entries of what `geo::enu_basis` gives. Assumes nothing.
+-- `mlat_solver::geodesy::mlat_enu_basis` meets its contract: the array has the nine entries of what `geo::enu_basis` gives. Assumes nothing.
 use mathlib.Core.Path.{ap, _∙_}
 use borrow.Author.Needs.{needs}
 use Rattle.mlat_solver.specs.Lent.{nineOf}
-use Rattle.mlat_solver.proofs.mlat_enu_basis.Statement.{statement}
-use Rattle.mlat_solver.proofs.mlat_enu_basis.Tie as tie
+use Rattle.mlat_solver.proofs.geodesy.mlat_enu_basis.Statement.{statement}
+use Rattle.mlat_solver.proofs.geodesy.mlat_enu_basis.Tie as tie
 
 enu-basis-requires : tie.Need-enu-basis-requires
 enu-basis-requires c κs = search needs

@@ -1,9 +1,9 @@
--- `mlat_solver::mlat_horizontal_sigma_m` meets its contract: the position and the rows are those that the arrays hold. Assumes nothing.
+-- `mlat_solver::claims::mlat_horizontal_sigma_m` meets its contract: the position and the rows are those that the arrays hold. Assumes nothing.
 use borrow.Author.Needs.{needs}
 use mathlib.Core.Path.{ap₂, _∙_}
 use Rattle.limits.specs.Local.{horizontalSigmaM}
-use Rattle.mlat_solver.proofs.mlat_horizontal_sigma_m.Statement.{statement}
-use Rattle.mlat_solver.proofs.mlat_horizontal_sigma_m.Tie as tie
+use Rattle.mlat_solver.proofs.claims.mlat_horizontal_sigma_m.Statement.{statement}
+use Rattle.mlat_solver.proofs.claims.mlat_horizontal_sigma_m.Tie as tie
 
 geodetic-requires : tie.Need-geodetic-requires
 geodetic-requires c κs = search needs

@@ -1,9 +1,9 @@
--- `mlat_solver::mlat_to_ecef` meets its contract: the three numbers are the position that `geo::to_ecef` takes. Assumes nothing.
+-- `mlat_solver::geodesy::mlat_to_ecef` meets its contract: the three numbers are the position that `geo::to_ecef` takes. Assumes nothing.
 use borrow.Author.Needs.{needs}
 use mathlib.Core.Path.{ap, _∙_}
 use Rattle.geo.specs.Geo.{toEcef}
-use Rattle.mlat_solver.proofs.mlat_to_ecef.Statement.{statement}
-use Rattle.mlat_solver.proofs.mlat_to_ecef.Tie as tie
+use Rattle.mlat_solver.proofs.geodesy.mlat_to_ecef.Statement.{statement}
+use Rattle.mlat_solver.proofs.geodesy.mlat_to_ecef.Tie as tie
 
 geodetic-requires : tie.Need-geodetic-requires
 geodetic-requires c κs = search needs

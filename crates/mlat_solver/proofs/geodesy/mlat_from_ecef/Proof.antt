@@ -1,9 +1,9 @@
--- `mlat_solver::mlat_from_ecef` meets its contract: the array has the fields of what `geo::from_ecef` gives. Assumes nothing.
+-- `mlat_solver::geodesy::mlat_from_ecef` meets its contract: the array has the fields of what `geo::from_ecef` gives. Assumes nothing.
 use mathlib.Core.Path.{ap}
 use borrow.Author.Needs.{needs}
 use Rattle.mlat_solver.specs.Lent.{threeOf}
-use Rattle.mlat_solver.proofs.mlat_from_ecef.Statement.{statement}
-use Rattle.mlat_solver.proofs.mlat_from_ecef.Tie as tie
+use Rattle.mlat_solver.proofs.geodesy.mlat_from_ecef.Statement.{statement}
+use Rattle.mlat_solver.proofs.geodesy.mlat_from_ecef.Tie as tie
 
 from-ecef-requires : tie.Need-from-ecef-requires
 from-ecef-requires c κs = search needs

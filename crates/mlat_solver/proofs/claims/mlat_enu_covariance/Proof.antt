@@ -1,10 +1,10 @@
--- `mlat_solver::mlat_enu_covariance` meets its contract: the array has the nine entries of what `limits::enu_covariance` gives. Assumes nothing.
+-- `mlat_solver::claims::mlat_enu_covariance` meets its contract: the array has the nine entries of what `limits::enu_covariance` gives. Assumes nothing.
 use borrow.Author.Needs.{needs}
 use mathlib.Core.Path.{ap, ap₂, _∙_}
 use Rattle.limits.specs.Local.{enuCovariance}
 use Rattle.mlat_solver.specs.Lent.{nineOf}
-use Rattle.mlat_solver.proofs.mlat_enu_covariance.Statement.{statement}
-use Rattle.mlat_solver.proofs.mlat_enu_covariance.Tie as tie
+use Rattle.mlat_solver.proofs.claims.mlat_enu_covariance.Statement.{statement}
+use Rattle.mlat_solver.proofs.claims.mlat_enu_covariance.Tie as tie
 
 geodetic-requires : tie.Need-geodetic-requires
 geodetic-requires c κs = search needs

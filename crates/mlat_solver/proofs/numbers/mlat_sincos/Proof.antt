@@ -1,8 +1,8 @@
--- `mlat_solver::mlat_sincos` meets its contract: the two fields of what `sincos` gives are written in turn. Assumes nothing.
+-- `mlat_solver::numbers::mlat_sincos` meets its contract: the two fields of what `sincos` gives are written in turn. Assumes nothing.
 use borrow.Author.Needs.{needs}
 use Rattle.libm.specs.Trig.{sincos}
-use Rattle.mlat_solver.proofs.mlat_sincos.Statement.{statement}
-use Rattle.mlat_solver.proofs.mlat_sincos.Tie as tie
+use Rattle.mlat_solver.proofs.numbers.mlat_sincos.Statement.{statement}
+use Rattle.mlat_solver.proofs.numbers.mlat_sincos.Tie as tie
 
 sincos-requires : tie.Need-sincos-requires
 sincos-requires c κs = search needs
