@@ -1,4 +1,4 @@
--- A file that is too long gets the reply of what the program `solve` cuts it to. Assumes nothing.
+-- A file that is too long gets the reply of what the program `solve` cuts it to: the statement of specs/Cut.antt. Assumes nothing.
 use Prim.Native.Nat.{ℕ, _*_, _/_, _%_, _≤_, _<_}
 use mathlib.Core.Path.{_≡_, refl, ap, sym, _∙_}
 use mathlib.Core.Bool.{Bool, true, false, cond, _&&_}
@@ -17,11 +17,8 @@ use Rattle.inputs.specs.declared.Check.the-variants.{Passed, Refused}
 use Rattle.inputs.specs.Faults.{numberOf, detailOf, orElse, unless, firstTo}
 use Rattle.inputs.specs.Inputs.{Inputs, sized, whole, checkReception, checkClock, checkInputs}
 use Rattle.entry.specs.Reply.{turnedAway, replied, reply}
+use Rattle.entry.specs.Cut.{filed, CutRepliesAlike}
 use Rattle.entry.proofs.Replies.{made, bare}
-
--- the inputs as `lent` has them
-abbrev of : List ℕ → Option (List ℕ) → Option (List ℕ) → Option (List ℕ) → Inputs
-of rs clock alt ref = record { whole = eqb (length rs % 64) 0; n = length rs / 64; at = receptionAt rs; clock = clock; altitude = alt; reference = ref }
 
 -- n is not written
 without-n : (fault : Fault) (n : ℕ) → 9 < numberOf fault → turnedAway fault n ≡ turnedAway fault 0
@@ -29,11 +26,11 @@ without-n fault n h = ap (made (numberOf fault)) (bare (numberOf fault) (detailO
 
 -- ---- receptions
 module _ (clock alt ref : Option (List ℕ)) where
-  torn-reply : (rs : List ℕ) → (length rs % 64 ≡ 0 → ⊥) → reply (of rs clock alt ref) ≡ turnedAway TornInput 0
+  torn-reply : (rs : List ℕ) → (length rs % 64 ≡ 0 → ⊥) → reply (filed rs clock alt ref) ≡ turnedAway TornInput 0
   unfolding reply checkInputs whole
   torn-reply rs h = rw (ne-eqb (length rs % 64) 0 h) (without-n TornInput (length rs / 64) (omega arith))
 
-  many-reply : (rs : List ℕ) → length rs % 64 ≡ 0 → 32 < length rs / 64 → reply (of rs clock alt ref) ≡ turnedAway (cond (sized 16 alt && sized 8 ref) TooMany TornInput) 0
+  many-reply : (rs : List ℕ) → length rs % 64 ≡ 0 → 32 < length rs / 64 → reply (filed rs clock alt ref) ≡ turnedAway (cond (sized 16 alt && sized 8 ref) TooMany TornInput) 0
   unfolding reply checkInputs whole
   many-reply rs h l = rw (eq-eqb (length rs % 64) 0 h, lt-leb (length rs / 64) 32 l) (go (sized 16 alt && sized 8 ref) _)
     where
@@ -42,11 +39,11 @@ module _ (clock alt ref : Option (List ℕ)) where
       go false I = without-n TornInput (I .n) (omega arith)
 
   -- 2,111 bytes stand for every torn length
-  pub cut-torn : (rs cut : List ℕ) → (length rs % 64 ≡ 0 → ⊥) → length cut ≡ 2111 → reply (of rs clock alt ref) ≡ reply (of cut clock alt ref)
+  cut-torn : (rs cut : List ℕ) → (length rs % 64 ≡ 0 → ⊥) → length cut ≡ 2111 → reply (filed rs clock alt ref) ≡ reply (filed cut clock alt ref)
   cut-torn rs cut h e = torn-reply rs h ∙ sym (torn-reply cut (λ q. omega arith))
 
   -- 2,112 bytes stand for every whole number of receptions above 32
-  pub cut-whole : (rs cut : List ℕ) → length rs % 64 ≡ 0 → 2112 ≤ length rs → length cut ≡ 2112 → reply (of rs clock alt ref) ≡ reply (of cut clock alt ref)
+  cut-whole : (rs cut : List ℕ) → length rs % 64 ≡ 0 → 2112 ≤ length rs → length cut ≡ 2112 → reply (filed rs clock alt ref) ≡ reply (filed cut clock alt ref)
   cut-whole rs cut h l e = many-reply rs h (omega arith) ∙ sym (many-reply cut (omega arith) (omega arith))
 
 -- ---- the clock covariance
@@ -66,11 +63,11 @@ module _ (rs : List ℕ) (alt ref : Option (List ℕ)) where
   clock-long : (b : List ℕ) → 8192 < length b → n ≤ 32 → checkClock (some b) n ≡ Refused ClockSize
   clock-long b h l = rw (ne-eqb (length b) (8 * (n * n)) (λ e. omega (arith, room n l)))
 
-  check-long : (b : List ℕ) → 8192 < length b → checkInputs (of rs (some b) alt ref) ≡ long
+  check-long : (b : List ℕ) → 8192 < length b → checkInputs (filed rs (some b) alt ref) ≡ long
   unfolding checkInputs whole
   check-long b h = go (leb n 32) refl
     where
-      go : (t : Bool) → leb n 32 ≡ t → checkInputs (of rs (some b) alt ref) ≡ long
+      go : (t : Bool) → leb n 32 ≡ t → checkInputs (filed rs (some b) alt ref) ≡ long
       go true e = rw (e, clock-long b h (leb-true n 32 e))
       go false e = rw e
 
@@ -81,17 +78,17 @@ module _ (rs : List ℕ) (alt ref : Option (List ℕ)) where
   same Passed Passed Passed I J e = ap (turnedAway ClockSize) e
 
   -- 8,193 bytes stand for every greater length
-  pub cut-clock : (b cut : List ℕ) → 8192 < length b → 8192 < length cut → reply (of rs (some b) alt ref) ≡ reply (of rs (some cut) alt ref)
+  cut-clock : (b cut : List ℕ) → 8192 < length b → 8192 < length cut → reply (filed rs (some b) alt ref) ≡ reply (filed rs (some cut) alt ref)
   unfolding reply
-  cut-clock b cut h k = rw (check-long b h, check-long cut k) (same torn (unless (leb n 32) TooMany) received (of rs (some b) alt ref) (of rs (some cut) alt ref) refl)
+  cut-clock b cut h k = rw (check-long b h, check-long cut k) (same torn (unless (leb n 32) TooMany) received (filed rs (some b) alt ref) (filed rs (some cut) alt ref) refl)
 
 -- ---- the altitude and the reference: one byte too many stands for every greater length
 module _ (rs : List ℕ) (clock : Option (List ℕ)) where
-  torn-by : (alt ref : Option (List ℕ)) → sized 16 alt && sized 8 ref ≡ false → reply (of rs clock alt ref) ≡ turnedAway TornInput 0
+  torn-by : (alt ref : Option (List ℕ)) → sized 16 alt && sized 8 ref ≡ false → reply (filed rs clock alt ref) ≡ turnedAway TornInput 0
   unfolding reply checkInputs whole
   torn-by alt ref e = rw e (go (eqb (length rs % 64) 0) _)
     where
-      go : (t : Bool) (later : Check) → replied (orElse (unless (t && false) TornInput) later) (of rs clock alt ref) ≡ turnedAway TornInput 0
+      go : (t : Bool) (later : Check) → replied (orElse (unless (t && false) TornInput) later) (filed rs clock alt ref) ≡ turnedAway TornInput 0
       go true later = without-n TornInput (length rs / 64) (omega arith)
       go false later = without-n TornInput (length rs / 64) (omega arith)
 
@@ -99,12 +96,22 @@ module _ (rs : List ℕ) (clock : Option (List ℕ)) where
   off true = refl
   off false = refl
 
-  pub cut-altitude : (a cut : List ℕ) (ref : Option (List ℕ)) → 16 < length a → 16 < length cut → reply (of rs clock (some a) ref) ≡ reply (of rs clock (some cut) ref)
+  cut-altitude : (a cut : List ℕ) (ref : Option (List ℕ)) → 16 < length a → 16 < length cut → reply (filed rs clock (some a) ref) ≡ reply (filed rs clock (some cut) ref)
   cut-altitude a cut ref h k =
       torn-by (some a) ref (rw (ne-eqb (length a) 16 (λ e. omega arith)))
       ∙ sym (torn-by (some cut) ref (rw (ne-eqb (length cut) 16 (λ e. omega arith))))
 
-  pub cut-reference : (r cut : List ℕ) (alt : Option (List ℕ)) → 8 < length r → 8 < length cut → reply (of rs clock alt (some r)) ≡ reply (of rs clock alt (some cut))
+  cut-reference : (r cut : List ℕ) (alt : Option (List ℕ)) → 8 < length r → 8 < length cut → reply (filed rs clock alt (some r)) ≡ reply (filed rs clock alt (some cut))
   cut-reference r cut alt h k =
       torn-by alt (some r) (rw (ne-eqb (length r) 8 (λ e. omega arith)) (off (sized 16 alt)))
       ∙ sym (torn-by alt (some cut) (rw (ne-eqb (length cut) 8 (λ e. omega arith)) (off (sized 16 alt))))
+
+-- ---- the statement
+pub cut-replies-alike : CutRepliesAlike
+cut-replies-alike = record {
+  torn = λ rs cut clock alt ref. cut-torn clock alt ref rs cut;
+  whole = λ rs cut clock alt ref. cut-whole clock alt ref rs cut;
+  clock = λ rs c cut alt ref. cut-clock rs alt ref c cut;
+  altitude = λ rs a cut clock ref. cut-altitude rs clock a cut ref;
+  reference = λ rs r cut clock alt. cut-reference rs clock r cut alt;
+}
