@@ -6,12 +6,14 @@ ghost use Rattle.binary64.specs.Rounding.{halfAway};
 ghost use Rattle.libm.specs.Trig.{sin, cos};
 ghost use Rattle.libm.specs.Atan.{atan2};
 ghost use Rattle.libm.specs.Hypotenuse.{hypot};
+ghost use Rattle.mlat_solver.specs.Meaning.{IsRoot, IsRounded};
 
 // The binary64 nearest the exact square root, ties to even. -0 gives -0, any other negative number
 // a not-a-number.
 #[no_mangle]
 pub extern "C" fn mlat_sqrt(x: f64) -> f64
-    ensures { λ r. ⌜ r ≡ root x ⌝ }
+    ensures value { λ r. ⌜ r ≡ root x ⌝ }
+    ensures meaning { λ r. ⌜ IsRoot x r ⌝ }
 {
     binary64::sqrt(x)
 }
@@ -20,7 +22,8 @@ pub extern "C" fn mlat_sqrt(x: f64) -> f64
 // pass.
 #[no_mangle]
 pub extern "C" fn mlat_round(x: f64) -> f64
-    ensures { λ r. ⌜ r ≡ halfAway x ⌝ }
+    ensures value { λ r. ⌜ r ≡ halfAway x ⌝ }
+    ensures meaning { λ r. ⌜ IsRounded x r ⌝ }
 {
     binary64::round(x)
 }
