@@ -1,6 +1,6 @@
 // Replays recorded results of the public fdlibm, so that a gate needs no other implementation at hand. Standard input holds records of four 64-bit words,
-// little-endian: the function (0 sin, 1 cos, 2 atan2, 3 hypot), its arguments, and the result's bits. Prints how many were compared and how many differ; all
-// not-a-numbers count as one value.
+// little-endian: the function (0 sin, 1 cos, 2 atan2, 3 hypot), its arguments, and the result's bits. Prints how many were compared and how many differ; and how many were
+// compared with a falsified result, and how many of those differ, which is to be all. All not-a-numbers count as one value.
 use cases::Tally;
 use libc::STDOUT_FILENO;
 
@@ -18,13 +18,29 @@ fn result(function: u64, a: f64, b: f64) -> f64 {
     libm::hypot(a, b)
 }
 
-// Whether a record's result is the port's.
-fn agrees(record: &[u8; 32]) -> bool {
+// A result is falsified in the highest bit of its exponent: that changes every number, and a not-a-number into one.
+const EXPONENT: u64 = 0x4000_0000_0000_0000;
+
+// Whether these bits are those of the result.
+fn is_result(result: f64, bits: u64) -> bool {
+    binary64::to_bits(result) == binary64::to_bits(binary64::from_bits(bits))
+}
+
+// Whether the port's result is the recorded one, and whether it is the falsified one.
+struct Compared {
+    same: bool,
+    same_falsified: bool,
+}
+
+fn tried(record: &[u8; 32]) -> Compared {
     let a = words::f64_at(record, 8);
     let b = words::f64_at(record, 16);
-    let recorded = words::f64_at(record, 24);
+    let recorded = words::u64_at(record, 24);
     let result = result(words::u64_at(record, 0), a, b);
-    binary64::to_bits(result) == binary64::to_bits(recorded)
+    Compared {
+        same: is_result(result, recorded),
+        same_falsified: is_result(result, recorded ^ EXPONENT),
+    }
 }
 
 // The next record, and whether there was one.
@@ -32,10 +48,14 @@ fn next(record: &mut [u8; 32]) -> bool {
     cases::read(record, 32) == 32
 }
 
-fn print(tally: Tally) {
+fn print(tally: Tally, falsified: Tally) {
     io::print_decimal(STDOUT_FILENO, tally.compared);
     io::write_all(STDOUT_FILENO, b" compared, ");
     io::print_decimal(STDOUT_FILENO, tally.differ);
+    io::write_all(STDOUT_FILENO, b" differ; ");
+    io::print_decimal(STDOUT_FILENO, falsified.compared);
+    io::write_all(STDOUT_FILENO, b" falsified, ");
+    io::print_decimal(STDOUT_FILENO, falsified.differ);
     io::write_all(STDOUT_FILENO, b" differ\n");
 }
 
@@ -45,9 +65,14 @@ fn main() {
         compared: 0,
         differ: 0,
     };
-    while tally.compared < cases::MOST && next(&mut record) {
-        let same = agrees(&record);
-        tally = tally.with(same);
+    let mut falsified = Tally {
+        compared: 0,
+        differ: 0,
+    };
+    while tally.compared < cases::MOST && falsified.compared < cases::MOST && next(&mut record) {
+        let found = tried(&record);
+        tally = tally.with(found.same);
+        falsified = falsified.with(found.same_falsified);
     }
-    print(tally);
+    print(tally, falsified);
 }

@@ -2,7 +2,9 @@
 // written beside each case by tools/input_cases. A case on standard input is eight words and the
 // bytes of the files: the four lengths (receptions, clock, altitude, reference; 2^64 - 1 for a file
 // that is absent), then number and detail of the refusal, or 0 and 0 and the number of receptions.
-// Prints how many cases were compared and how many differ.
+// Prints how many cases were compared and how many differ; and how many were compared with a falsified
+// answer, and how many of those differ, which is to be all: case k has its number, detail or number of
+// receptions changed, in turn.
 ghost use Prim.Native.Nat.{_*_, _≤_};
 ghost use lib.ListN.{length};
 ghost use mathlib.Core.Path.{_≡_};
@@ -44,41 +46,73 @@ fn unpacked(bytes: &[u8], n: usize) -> Fields
     receptions::of_bytes(bytes, 0)
 }
 
-// Whether the header has this refusal.
-fn expects_refusal(header: &[u8; 64], fault: Fault) -> bool {
-    words::u64_at(header, 32) == inputs::number_of(fault) as u64
-        && words::u64_at(header, 40) == inputs::detail_of(fault) as u64
+// An answer: number and detail of a refusal and 0, or 0, 0 and the number of receptions of a problem.
+struct Outcome {
+    number: u64,
+    detail: u64,
+    n: u64,
 }
 
-// Whether it has a problem of n receptions.
-fn expects_problem(header: &[u8; 64], n: usize) -> bool {
-    words::u64_at(header, 32) == 0 && words::u64_at(header, 48) == n as u64
+fn refusal(fault: Fault) -> Outcome {
+    Outcome {
+        number: inputs::number_of(fault) as u64,
+        detail: inputs::detail_of(fault) as u64,
+        n: 0,
+    }
 }
 
-// Whether the inputs get the answer that is expected of them.
-fn answers(
+fn problem(n: usize) -> Outcome {
+    Outcome {
+        number: 0,
+        detail: 0,
+        n: n as u64,
+    }
+}
+
+// What the inputs are answered.
+fn answered(
     receptions: &[u8],
     g: Given,
     clock: &[u8],
     altitude: &[u8],
     reference: &[u8],
-    header: &[u8; 64],
-) -> bool {
+) -> Outcome {
     let n = receptions.len() / 64;
     let whole = receptions.len() % 64 == 0;
     let f = unpacked(receptions, n);
     let check = inputs::check_inputs(f, whole, n, g, clock, altitude, reference);
     match check {
-        Check::Refused(fault) => expects_refusal(header, fault),
+        Check::Refused(fault) => refusal(fault),
         Check::Passed => {
-            let problem = inputs::problem_of(f, n, g, clock, altitude, reference);
-            expects_problem(header, problem.n)
+            let made = inputs::problem_of(f, n, g, clock, altitude, reference);
+            problem(made.n)
         }
     }
 }
 
-// Whether the case of this header, whose files come next, is answered as expected.
-fn agrees(header: &[u8; 64]) -> bool {
+// Whether the header has this answer.
+fn expects(header: &[u8; 64], a: Outcome) -> bool {
+    words::u64_at(header, 32) == a.number
+        && words::u64_at(header, 40) == a.detail
+        && words::u64_at(header, 48) == a.n
+}
+
+// The header of case k with one word of its answer changed.
+fn falsified(header: &[u8; 64], k: u64) -> [u8; 64] {
+    let mut other = *header;
+    let place = 32 + 8 * (k % 3) as usize;
+    other[place] = other[place] ^ 1;
+    other
+}
+
+// Whether a case is answered as expected, and whether as is falsely expected.
+struct Compared {
+    same: bool,
+    same_falsified: bool,
+}
+
+// The case of this header, which is case k and whose files come next, compared.
+fn tried(header: &[u8; 64], k: u64) -> Compared {
     let mut receptions = [0u8; 8200];
     let mut clock = [0u8; 8200];
     let mut altitude = [0u8; 8200];
@@ -87,14 +121,18 @@ fn agrees(header: &[u8; 64]) -> bool {
     let b = cases::read(&mut clock, length_of(words::u64_at(header, 8)));
     let c = cases::read(&mut altitude, length_of(words::u64_at(header, 16)));
     let d = cases::read(&mut reference, length_of(words::u64_at(header, 24)));
-    answers(
+    let got = answered(
         &receptions[..a],
         given(header),
         &clock[..b],
         &altitude[..c],
         &reference[..d],
-        header,
-    )
+    );
+    let other = falsified(header, k);
+    Compared {
+        same: expects(header, got),
+        same_falsified: expects(&other, got),
+    }
 }
 
 // The next header, and whether there was one.
@@ -102,10 +140,14 @@ fn next(header: &mut [u8; 64]) -> bool {
     cases::read(header, 64) == 64
 }
 
-fn print(tally: Tally) {
+fn print(tally: Tally, falsified: Tally) {
     io::print_decimal(STDOUT_FILENO, tally.compared);
     io::write_all(STDOUT_FILENO, b" compared, ");
     io::print_decimal(STDOUT_FILENO, tally.differ);
+    io::write_all(STDOUT_FILENO, b" differ; ");
+    io::print_decimal(STDOUT_FILENO, falsified.compared);
+    io::write_all(STDOUT_FILENO, b" falsified, ");
+    io::print_decimal(STDOUT_FILENO, falsified.differ);
     io::write_all(STDOUT_FILENO, b" differ\n");
 }
 
@@ -115,9 +157,14 @@ fn main() {
         compared: 0,
         differ: 0,
     };
-    while tally.compared < cases::MOST && next(&mut header) {
-        let same = agrees(&header);
-        tally = tally.with(same);
+    let mut falsified = Tally {
+        compared: 0,
+        differ: 0,
+    };
+    while tally.compared < cases::MOST && falsified.compared < cases::MOST && next(&mut header) {
+        let found = tried(&header, tally.compared);
+        tally = tally.with(found.same);
+        falsified = falsified.with(found.same_falsified);
     }
-    print(tally);
+    print(tally, falsified);
 }

@@ -1,4 +1,4 @@
--- `test_inputs::answers` meets its contract: a problem is made where the check passed (`is-passed`). Assumes nothing.
+-- `test_inputs::answered` meets its contract: a problem is made where the check passed (`is-passed`). Assumes nothing.
 use borrow.Author.Needs.{needs}
 use mathlib.Core.Path.{_≡_, sym, subst, _∙_}
 use mathlib.Core.Bool.{Bool}
@@ -12,8 +12,8 @@ use Rattle.inputs.specs.declared.Check.the-variants.{Passed}
 use Rattle.inputs.specs.Inputs.{Inputs, inputsOf, checkInputs}
 use Rattle.inputs.proofs.Order.{is-passed, is-whole, few}
 use Rattle.inputs.proofs.Alike.{nothing-else}
-use Rattle.test_inputs.proofs.answers.Statement.{statement}
-use Rattle.test_inputs.proofs.answers.Tie as tie
+use Rattle.test_inputs.proofs.answered.Statement.{statement}
+use Rattle.test_inputs.proofs.answered.Tie as tie
 
 abbrev lent : tie.Start → Fields → Bool → Inputs
 lent s f whole = inputsOf whole (length (s .args .receptions .now) / 64) (receptionIn f) (s .args .g) (s .args .clock .now) (s .args .altitude .now) (s .args .reference .now)
@@ -27,8 +27,8 @@ check-inputs-requires c κs = search needs
 enum-known-check : tie.Need-enum-known-check
 enum-known-check c = search needs
 
-expects-refusal-requires : tie.Need-expects-refusal-requires
-expects-refusal-requires c κs = search needs
+refusal-requires : tie.Need-refusal-requires
+refusal-requires c κs = search needs
 
 enum-told : tie.Need-enum-told
 enum-told c = search needs
@@ -42,8 +42,8 @@ problem-of-requires c κs =
     let e : checkInputs given ≡ Passed = sym (c .before .before .check-inputs .ensures) ∙ is-passed (c .before .before .check-inputs .result) (c .before .match .keys2) in
     (nothing-else f (length bytes / 64) (receptionAt bytes) (c .before .before .before .unpacked .ensures) (few given e), subst (λ (w : Bool). checkInputs (lent s f w) ≡ Passed) (is-whole given e) e)
 
-expects-problem-requires : tie.Need-expects-problem-requires
-expects-problem-requires c κs = search needs
+problem-requires : tie.Need-problem-requires
+problem-requires c κs = search needs
 
 returns : tie.Need-returns
 returns c = search needs
@@ -51,16 +51,16 @@ returns c = search needs
 returns-2 : tie.Need-returns-2
 returns-2 c = search needs
 
-pub answers-spec : {M : Type 1} → statement M
-answers-spec =
+pub answered-spec : {M : Type 1} → statement M
+answered-spec =
     tie.close
     (tie.spec
     unpacked-requires
     check-inputs-requires
     enum-known-check
-    expects-refusal-requires
+    refusal-requires
     enum-told
     problem-of-requires
-    expects-problem-requires
+    problem-requires
     returns
     returns-2)

@@ -1,32 +1,36 @@
--- `test_inputs::main` ends: each turn adds a case, of a million at most. The invariant: no more differ than were compared. Assumes nothing.
+-- `test_inputs::main` ends: each turn adds a case, of a million at most. The invariant: no more differ than were compared, as recorded and falsified. Assumes nothing.
 use Prim.Native.Nat.{_-_, _≤_}
+use native.Mathlib.Omega.{arith}
 use borrow.Author.Needs.{needs}
 use Rattle.test_inputs.proofs.main.Statement.{statement}
 use Rattle.test_inputs.proofs.main.Tie as tie
 
 abbrev Inv-loop : tie.InvT-loop
-Inv-loop header₀ tally₀ header tally = tally .differ ≤ tally .compared
+Inv-loop header₀ tally₀ falsified₀ header tally falsified = (tally .differ ≤ tally .compared) × (falsified .differ ≤ falsified .compared)
 
 abbrev μ-loop : tie.MeasureT-loop
-μ-loop header₀ tally₀ header tally = 1000000 - tally .compared
+μ-loop header₀ tally₀ falsified₀ header tally falsified = 1000000 - tally .compared
 
 loop-holds : tie.Need-loop-holds Inv-loop μ-loop
-loop-holds c = search needs
+loop-holds c = (omega arith, omega arith)
 
 next-requires : tie.Need-next-requires Inv-loop μ-loop
 next-requires c κs = search needs
 
-agrees-requires : tie.Need-agrees-requires Inv-loop μ-loop
-agrees-requires c κs = search needs
+tried-requires : tie.Need-tried-requires Inv-loop μ-loop
+tried-requires c κs = search needs
 
 with-requires : tie.Need-with-requires Inv-loop μ-loop
 with-requires c κs = search needs
+
+with-requires-2 : tie.Need-with-requires-2 Inv-loop μ-loop
+with-requires-2 c κs = search needs
 
 loop-less : tie.Need-loop-less Inv-loop μ-loop
 loop-less c = search needs
 
 loop-again : tie.Need-loop-again Inv-loop μ-loop
-loop-again c = search needs
+loop-again c = (omega arith, omega arith)
 
 print-requires : tie.Need-print-requires Inv-loop μ-loop
 print-requires c κs = search needs
@@ -42,8 +46,9 @@ main-spec =
     μ-loop
     loop-holds
     next-requires
-    agrees-requires
+    tried-requires
     with-requires
+    with-requires-2
     loop-less
     loop-again
     print-requires
