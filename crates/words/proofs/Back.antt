@@ -40,3 +40,12 @@ read-back (suc w) s k x h l =
     let m : x / 256 < 256 ^ w = div-lt-iff-lt-mul {k = 256} {x = x} {y = 256 ^ w} (omega arith) .1 (rw (pow-suc 256 w) at l) in
     let first = put-keeps w t (k + 1) (x / 256) k (inl (omega arith)) ∙ getD-set-same s k (x % 256) 0 (omega arith) in
     rw (first, read-back w t (k + 1) (x / 256) (rw length-set (omega arith)) m) (omega arith)
+
+-- a word of w bytes is below 256 ^ w
+pub word-lt : (w : ℕ) (s : List ℕ) (k : ℕ) → ((j : ℕ) → getD s j 0 < 256) → wordAt w s k < 256 ^ w
+unfolding wordAt
+word-lt zero s k b = omega arith
+word-lt (suc w) s k b =
+    let first = b k in
+    let rest = word-lt w s (k + 1) b in
+    rw (pow-suc 256 w) (omega arith)

@@ -18,6 +18,14 @@ unfoldable pub putWord : ℕ → List ℕ → ℕ → ℕ → List ℕ
 putWord zero s k x = s
 putWord (suc w) s k x = putWord w (set s k (x % 256)) (k + 1) (x / 256)
 
+unfoldable pub u16At : List ℕ → ℕ → ℕ
+unfolding wordAt
+u16At s k = wordAt 2 s k
+
+unfoldable pub u32At : List ℕ → ℕ → ℕ
+unfolding wordAt
+u32At s k = wordAt 4 s k
+
 unfoldable pub u64At : List ℕ → ℕ → ℕ
 unfolding wordAt
 u64At s k = wordAt 8 s k

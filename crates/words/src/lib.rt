@@ -5,7 +5,8 @@ ghost use Prim.Native.Nat.{_+_, _<_, _≤_, _^_};
 ghost use lib.ListN.{length};
 ghost use mir.Syntax.{w64};
 ghost use mir.Val.{ofZ};
-ghost use Rattle.words.specs.Words.{wordAt, u64At, i64At, f64At, putU16, putU32, putU64, putI64, putF64};
+ghost use Rattle.words.specs.Words.{wordAt, u16At, u32At, u64At, i64At, f64At};
+ghost use Rattle.words.specs.Words.{putU16, putU32, putU64, putI64, putF64};
 
 // How many numbers two bytes hold, and four; the greatest that eight hold; the least of those whose
 // sign bit is set.
@@ -23,25 +24,40 @@ fn byte(x: u8) -> u64
     x as u64
 }
 
-fn u16_at(s: &[u8], k: usize) -> u64
+// Two bytes and four, as the parts of a wider word.
+fn pair_at(s: &[u8], k: usize) -> u64
     requires { ⌜ k + 2 ≤ length (now s) ⌝ }
     ensures { λ r. ⌜ (r ≡ wordAt 2 (now (s .entry)) k) × (r < 2 ^ 16) ⌝ }
 {
     byte(s[k]) + 256 * byte(s[k + 1])
 }
 
-fn u32_at(s: &[u8], k: usize) -> u64
+fn quad_at(s: &[u8], k: usize) -> u64
     requires { ⌜ k + 4 ≤ length (now s) ⌝ }
     ensures { λ r. ⌜ (r ≡ wordAt 4 (now (s .entry)) k) × (r < 2 ^ 32) ⌝ }
 {
-    u16_at(s, k) + TWO_BYTES * u16_at(s, k + 2)
+    pair_at(s, k) + TWO_BYTES * pair_at(s, k + 2)
+}
+
+pub fn u16_at(s: &[u8], k: usize) -> u16
+    requires { ⌜ k + 2 ≤ length (now s) ⌝ }
+    ensures { λ r. ⌜ r ≡ u16At (now (s .entry)) k ⌝ }
+{
+    pair_at(s, k) as u16
+}
+
+pub fn u32_at(s: &[u8], k: usize) -> u32
+    requires { ⌜ k + 4 ≤ length (now s) ⌝ }
+    ensures { λ r. ⌜ r ≡ u32At (now (s .entry)) k ⌝ }
+{
+    quad_at(s, k) as u32
 }
 
 pub fn u64_at(s: &[u8], k: usize) -> u64
     requires { ⌜ k + 8 ≤ length (now s) ⌝ }
     ensures { λ r. ⌜ r ≡ u64At (now (s .entry)) k ⌝ }
 {
-    u32_at(s, k) + FOUR_BYTES * u32_at(s, k + 4)
+    quad_at(s, k) + FOUR_BYTES * quad_at(s, k + 4)
 }
 
 pub fn i64_at(s: &[u8], k: usize) -> i64

@@ -1,44 +1,18 @@
--- `words::u16_at` meets its contract: its two bytes are the word. Assumes nothing.
+-- `words::u16_at` meets its contract: it is the pair, which fits. Assumes nothing.
 use borrow.Author.Needs.{needs}
-use native.Mathlib.Omega.{arith}
-use Rattle.words.specs.Words.{wordAt}
+use Rattle.words.specs.Words.{u16At}
 use Rattle.words.proofs.u16_at.Statement.{statement}
 use Rattle.words.proofs.u16_at.Tie as tie
 
-shared-slice-read-byte : tie.Need-shared-slice-read-byte
-shared-slice-read-byte c = search needs
+pair-at-requires : tie.Need-pair-at-requires
+pair-at-requires c κs = search needs
 
-byte-requires : tie.Need-byte-requires
-byte-requires c κs = search needs
-
-add-byte : tie.Need-add-byte
-add-byte c = search needs
-
-shared-slice-read-byte-2 : tie.Need-shared-slice-read-byte-2
-shared-slice-read-byte-2 c = search needs
-
-byte-requires-2 : tie.Need-byte-requires-2
-byte-requires-2 c κs = search needs
-
-mul-result : tie.Need-mul-result
-mul-result c = search needs
-
-add-result : tie.Need-add-result
-add-result c = search needs
+cast-result : tie.Need-cast-result
+cast-result c = search needs
 
 returns : tie.Need-returns
-unfolding wordAt
-returns c = omega arith
+unfolding u16At
+returns c = search needs
 
 pub u16-at-spec : {M : Type 1} → statement M
-u16-at-spec =
-    tie.close
-    (tie.spec
-    shared-slice-read-byte
-    byte-requires
-    add-byte
-    shared-slice-read-byte-2
-    byte-requires-2
-    mul-result
-    add-result
-    returns)
+u16-at-spec = tie.close (tie.spec pair-at-requires cast-result returns)

@@ -1,35 +1,18 @@
--- `words::u32_at` meets its contract: its halves are the parts of the word (`read-parts`). Assumes nothing.
+-- `words::u32_at` meets its contract: it is the quad, which fits. Assumes nothing.
 use borrow.Author.Needs.{needs}
-use native.Mathlib.Omega.{arith}
-use Rattle.words.proofs.Halves.{read-parts}
+use Rattle.words.specs.Words.{u32At}
 use Rattle.words.proofs.u32_at.Statement.{statement}
 use Rattle.words.proofs.u32_at.Tie as tie
 
-u16-at-requires : tie.Need-u16-at-requires
-u16-at-requires c κs = search needs
+quad-at-requires : tie.Need-quad-at-requires
+quad-at-requires c κs = search needs
 
-add-u16-at : tie.Need-add-u16-at
-add-u16-at c = search needs
-
-u16-at-requires-2 : tie.Need-u16-at-requires-2
-u16-at-requires-2 c κs = search needs
-
-mul-result : tie.Need-mul-result
-mul-result c = search needs
-
-add-result : tie.Need-add-result
-add-result c = search needs
+cast-result : tie.Need-cast-result
+cast-result c = search needs
 
 returns : tie.Need-returns
-returns c = let e = read-parts 2 2 (c .before .before .before .args .s .now) (c .before .before .before .args .k) in omega arith
+unfolding u32At
+returns c = search needs
 
 pub u32-at-spec : {M : Type 1} → statement M
-u32-at-spec =
-    tie.close
-    (tie.spec
-    u16-at-requires
-    add-u16-at
-    u16-at-requires-2
-    mul-result
-    add-result
-    returns)
+u32-at-spec = tie.close (tie.spec quad-at-requires cast-result returns)

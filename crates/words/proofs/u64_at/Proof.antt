@@ -6,14 +6,14 @@ use Rattle.words.proofs.Halves.{read-parts}
 use Rattle.words.proofs.u64_at.Statement.{statement}
 use Rattle.words.proofs.u64_at.Tie as tie
 
-u32-at-requires : tie.Need-u32-at-requires
-u32-at-requires c κs = search needs
+quad-at-requires : tie.Need-quad-at-requires
+quad-at-requires c κs = search needs
 
-add-u32-at : tie.Need-add-u32-at
-add-u32-at c = search needs
+add-quad-at : tie.Need-add-quad-at
+add-quad-at c = search needs
 
-u32-at-requires-2 : tie.Need-u32-at-requires-2
-u32-at-requires-2 c κs = search needs
+quad-at-requires-2 : tie.Need-quad-at-requires-2
+quad-at-requires-2 c κs = search needs
 
 mul-result : tie.Need-mul-result
 mul-result c = search needs
@@ -29,9 +29,9 @@ pub u64-at-spec : {M : Type 1} → statement M
 u64-at-spec =
     tie.close
     (tie.spec
-    u32-at-requires
-    add-u32-at
-    u32-at-requires-2
+    quad-at-requires
+    add-quad-at
+    quad-at-requires-2
     mul-result
     add-result
     returns)

@@ -1,0 +1,44 @@
+-- `words::pair_at` meets its contract: its two bytes are the word. Assumes nothing.
+use borrow.Author.Needs.{needs}
+use native.Mathlib.Omega.{arith}
+use Rattle.words.specs.Words.{wordAt}
+use Rattle.words.proofs.pair_at.Statement.{statement}
+use Rattle.words.proofs.pair_at.Tie as tie
+
+shared-slice-read-byte : tie.Need-shared-slice-read-byte
+shared-slice-read-byte c = search needs
+
+byte-requires : tie.Need-byte-requires
+byte-requires c κs = search needs
+
+add-byte : tie.Need-add-byte
+add-byte c = search needs
+
+shared-slice-read-byte-2 : tie.Need-shared-slice-read-byte-2
+shared-slice-read-byte-2 c = search needs
+
+byte-requires-2 : tie.Need-byte-requires-2
+byte-requires-2 c κs = search needs
+
+mul-result : tie.Need-mul-result
+mul-result c = search needs
+
+add-result : tie.Need-add-result
+add-result c = search needs
+
+returns : tie.Need-returns
+unfolding wordAt
+returns c = omega arith
+
+pub pair-at-spec : {M : Type 1} → statement M
+pair-at-spec =
+    tie.close
+    (tie.spec
+    shared-slice-read-byte
+    byte-requires
+    add-byte
+    shared-slice-read-byte-2
+    byte-requires-2
+    mul-result
+    add-result
+    returns)
