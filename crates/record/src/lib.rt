@@ -55,7 +55,7 @@ fn put_three(r: &mut [u8; 176], k: usize, v: [f64; 3])
 }
 
 // The number of the altitude's kind.
-fn kind(altitude: Altitude) -> u8
+pub fn kind(altitude: Altitude) -> u8
     ensures { λ r. ⌜ r ≡ kind altitude ⌝ }
 {
     match altitude {
@@ -66,7 +66,7 @@ fn kind(altitude: Altitude) -> u8
 }
 
 // The altitude's metres, and 0, whose bytes are zeros, where there is none.
-fn metres(altitude: Altitude) -> f64
+pub fn metres(altitude: Altitude) -> f64
     ensures { λ r. ⌜ r ≡ metres altitude ⌝ }
 {
     match altitude {
