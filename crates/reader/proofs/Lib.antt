@@ -1,0 +1,11 @@
+-- The laws that the proofs share.
+pub mod Tests
+pub mod Places
+pub mod Assembled
+pub mod Copied
+pub mod Round
+pub mod Nothing
+pub mod Meaning
+pub mod Writing
+pub mod Table
+pub mod Fixed

@@ -1,0 +1,24 @@
+-- The three ends of a write. Assumes nothing.
+use Prim.Native.Nat.{ℕ, _<_, _≤_}
+use mathlib.Core.Path.{_≡_}
+use mathlib.Core.Bool.{true, false}
+use mathlib.Core.List.{List}
+use lib.Dec.{ltb}
+use lib.ListN.{length}
+use borrow.Author.Tests.{lt-ltb, le-ltb}
+use Rattle.record.specs.Record.{stored}
+use Rattle.reader.specs.declared.content.Content.{Content}
+use Rattle.reader.specs.Read.{bytesOf, readable, writeAnswer, writeOutput}
+
+module _ (v : Content) (out : List ℕ) where
+  pub short : length out < 176 → (14 ≡ writeAnswer v out) × (out ≡ writeOutput v out)
+  unfolding writeOutput writeAnswer
+  short h = let e : ltb (length out) 176 ≡ true = lt-ltb (length out) 176 h in (rw e, rw e)
+
+  pub unread : 176 ≤ length out → readable v ≡ false → (18 ≡ writeAnswer v out) × (out ≡ writeOutput v out)
+  unfolding writeOutput writeAnswer
+  unread h r = let e : ltb (length out) 176 ≡ false = le-ltb (length out) 176 h in (rw (e, r), rw (e, r))
+
+  pub written : (after b : List ℕ) → 176 ≤ length out → readable v ≡ true → after ≡ stored out b → b ≡ bytesOf v → (0 ≡ writeAnswer v out) × (after ≡ writeOutput v out)
+  unfolding writeOutput writeAnswer
+  written after b h r s p = let e : ltb (length out) 176 ≡ false = le-ltb (length out) 176 h in (rw (e, r), rw (e, r, s, p))
