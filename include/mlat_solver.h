@@ -109,6 +109,32 @@ uint32_t mlat_solve_receptions(const struct mlat_reception *receptions, size_t r
                                const uint8_t *altitude, size_t altitude_len, const uint8_t *reference, size_t reference_len, uint32_t present,
                                uint8_t *out, size_t out_len);
 
+/* ---- records: fix records read back */
+
+/* Where the record at a place of a file, counted from 0, begins: *at becomes 176 * place, an offset into the caller's
+   own file, whose 176 bytes from there on are the record. Returns 0; MLAT_TORN_FILE where file_len is not a multiple
+   of 176, before the place is looked at; MLAT_NO_SUCH_PLACE where the file ends before the place. A refusal leaves
+   *at as it was. */
+uint32_t mlat_record_at(const uint8_t *file, size_t file_len, uint64_t place, uint64_t *at);
+
+/* Takes a record apart. words: answer, detail, n, used mask, version, altitude kind (0 none, 1 barometric, 2 GNSS).
+   numbers: ECEF 0 to 2, T 3, latitude 4, longitude 5, height 6, covariance 7 to 15 by rows, chi2 16, altitude metres
+   17. *transmit_ps: the transmit time. Of a refusal's record version, kind, mask, the time and every number are 0.
+   Returns 0; MLAT_TORN_FILE where record_len is not 176; MLAT_MALFORMED_RECORD where a rule is broken: the answer is
+   0 to 13 or 15, n at most 32, fillers and unused fields are zero (n too, from 10 on; the metres where there is no
+   altitude); a fix has version 8, a kind of 0 to 2, finite floats, a mask within n and a detail equal to its dof; a
+   refusal's detail is at most 3 for 1, 1 to 31 for 11, 0 to 31, 100 to 131 or 200 for 12, and 0 otherwise. A refusal
+   leaves words, numbers and *transmit_ps as they were. */
+uint32_t mlat_read_record(const uint8_t *record, size_t record_len, uint32_t words[6], double numbers[18],
+                          int64_t *transmit_ps);
+
+/* Puts a record together again in the first 176 bytes of out: what was read gives its bytes, and reading those gives
+   the same words, numbers and time. Returns 0; MLAT_SHORT_OUTPUT where out_len is under 176; then
+   MLAT_MALFORMED_RECORD for whatever mlat_read_record could not have given. A refusal leaves out as it was, and bytes
+   past 176 never change. out overlaps neither words nor numbers. */
+uint32_t mlat_write_record(const uint32_t words[6], const double numbers[18], int64_t transmit_ps, uint8_t *out,
+                           size_t out_len);
+
 #ifdef __cplusplus
 }
 #endif

@@ -1,3 +1,4 @@
--- Document 01's table of edges, and what numbers mean to callers.
+-- Document 01's table of edges, what numbers mean to callers, and the laws that proofs share.
 pub mod Edges
 pub mod Meaning
+pub mod Lending

@@ -1,3 +1,4 @@
 pub mod Lent
 pub mod Edges
 pub mod Meaning
+pub mod Records

@@ -1,9 +1,11 @@
-// What is open to callers, under its C names: a module a subject, as in include/mlat_solver.h (numbers, geodesy, claims, solve).
+// What is open to callers, under its C names: a module a subject, as in include/mlat_solver.h (numbers, geodesy, claims, solve,
+// records).
 // Each function takes every value and demands nothing. An array of fixed length that is lent as `&mut` is written
 // whole, or stays as it was where the call is refused.
 mod claims;
 mod geodesy;
 mod numbers;
+mod records;
 mod solve;
 
 pub use claims::mlat_chi2_limit;
@@ -21,5 +23,8 @@ pub use numbers::mlat_round;
 pub use numbers::mlat_sin;
 pub use numbers::mlat_sincos;
 pub use numbers::mlat_sqrt;
+pub use records::mlat_read_record;
+pub use records::mlat_record_at;
+pub use records::mlat_write_record;
 pub use solve::mlat_solve;
 pub use solve::mlat_solve_receptions;
