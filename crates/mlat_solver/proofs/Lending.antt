@@ -46,7 +46,9 @@ module _ (words : List ℕ) (numbers : List Float) (time : ℤ) (out : List ℕ)
   unfolding held.recordAnswer held.recordOutput writeOutput writeAnswer
   short h = let e : ltb (length out) 176 ≡ true = lt-ltb (length out) 176 h in (rw e, both-same (held.whole words numbers) out (rw e))
 
-  pub lost : 176 ≤ length out → held.whole words numbers ≡ false → (18 ≡ held.recordAnswer words numbers time out) × (out ≡ held.recordOutput words numbers time out)
+  pub lost
+      : 176 ≤ length out → held.whole words numbers ≡ false
+      → (18 ≡ held.recordAnswer words numbers time out) × (out ≡ held.recordOutput words numbers time out)
   unfolding held.recordAnswer held.recordOutput
   lost h w = (rw (le-ltb (length out) 176 h, w), rw w)
 

@@ -1,4 +1,5 @@
--- Document 02, item 1, as C has it: what a record holds as six words, eighteen numbers and the transmit time. Definitions only.
+-- Document 02, item 1, as C has it: what a record holds as six words, eighteen numbers and the transmit time. Definitions
+-- only.
 use Prim.Native.Nat.{ℕ, _*_}
 use mathlib.Core.Bool.{Bool, not, cond, _&&_, _||_}
 use mathlib.Core.List.{List, [], _∷_}
@@ -95,7 +96,8 @@ whole words numbers =
 -- 14 first; then 18 for what `mlat_read_record` could not have given
 unfoldable pub recordAnswer : List ℕ → List Float → ℤ → List ℕ → ℕ
 recordAnswer words numbers time out =
-    cond (ltb (length out) 176) shortOutput (cond (whole words numbers) (writeAnswer (contentOf words numbers time) out) malformedRecord)
+    cond (ltb (length out) 176) shortOutput
+    (cond (whole words numbers) (writeAnswer (contentOf words numbers time) out) malformedRecord)
 
 unfoldable pub recordOutput : List ℕ → List Float → ℤ → List ℕ → List ℕ
 recordOutput words numbers time out = cond (whole words numbers) (writeOutput (contentOf words numbers time) out) out

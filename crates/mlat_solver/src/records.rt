@@ -97,12 +97,12 @@ pub extern "C" fn mlat_read_record(
     bytes: &[u8],
     words: &mut [u32; 6],
     numbers: &mut [f64; 18],
-    transmit_ps: &mut i64,
+    time: &mut i64,
 ) -> u32
     ensures answer { λ r. ⌜ r ≡ readOf (now (bytes .entry)) .refusal ⌝ }
     ensures words { λ _. ⌜ now (words .exit) ≡ held.wordsAfter (readOf (now (bytes .entry))) (now (words .entry)) ⌝ }
     ensures numbers { λ _. ⌜ now (numbers .exit) ≡ held.numbersAfter (readOf (now (bytes .entry))) (now (numbers .entry)) ⌝ }
-    ensures time { λ _. ⌜ now («transmit_ps» .exit) ≡ held.timeAfter (readOf (now (bytes .entry))) (now («transmit_ps» .entry)) ⌝ }
+    ensures time { λ _. ⌜ now (time .exit) ≡ held.timeAfter (readOf (now (bytes .entry))) (now (time .entry)) ⌝ }
 {
     let reading = reader::read(bytes);
     if reading.refusal != 0 {
@@ -110,15 +110,15 @@ pub extern "C" fn mlat_read_record(
     }
     let content = reading.content;
     let fix = content.fix;
-    let time = fix.transmit_ps;
+    let transmit_ps = fix.transmit_ps;
     *words = words_of(content);
     *numbers = numbers_of(content);
-    *transmit_ps = time;
+    *time = transmit_ps;
     0
 }
 
-fn fix_of(words: [u32; 6], numbers: [f64; 18], transmit_ps: i64) -> Fix
-    ensures { λ r. ⌜ r ≡ held.fixOf words numbers «transmit_ps» ⌝ }
+fn fix_of(words: [u32; 6], numbers: [f64; 18], time: i64) -> Fix
+    ensures { λ r. ⌜ r ≡ held.fixOf words numbers time ⌝ }
 {
     let position = Geodetic {
         lat_deg: numbers[4],
@@ -136,7 +136,7 @@ fn fix_of(words: [u32; 6], numbers: [f64; 18], transmit_ps: i64) -> Fix
         ecef,
         t: numbers[3],
         position,
-        transmit_ps,
+        transmit_ps: time,
         r0,
         r1,
         r2,
@@ -144,11 +144,11 @@ fn fix_of(words: [u32; 6], numbers: [f64; 18], transmit_ps: i64) -> Fix
     }
 }
 
-fn content_of(words: [u32; 6], numbers: [f64; 18], transmit_ps: i64) -> Content
-    ensures { λ r. ⌜ r ≡ held.contentOf words numbers «transmit_ps» ⌝ }
+fn content_of(words: [u32; 6], numbers: [f64; 18], time: i64) -> Content
+    ensures { λ r. ⌜ r ≡ held.contentOf words numbers time ⌝ }
 {
     let altitude = reader::altitude_of(words[5], numbers[17]);
-    let fix = fix_of(words, numbers, transmit_ps);
+    let fix = fix_of(words, numbers, time);
     Content {
         answer: words[0],
         detail: words[1],
@@ -183,11 +183,11 @@ fn whole(words: [u32; 6], numbers: [f64; 18]) -> bool
 pub extern "C" fn mlat_write_record(
     words: &[u32; 6],
     numbers: &[f64; 18],
-    transmit_ps: i64,
+    time: i64,
     out: &mut [u8],
 ) -> u32
-    ensures answer { λ r. ⌜ r ≡ held.recordAnswer (now (words .entry)) (now (numbers .entry)) «transmit_ps» (now (out .entry)) ⌝ }
-    ensures output { λ _. ⌜ now (out .exit) ≡ held.recordOutput (now (words .entry)) (now (numbers .entry)) «transmit_ps» (now (out .entry)) ⌝ }
+    ensures answer { λ r. ⌜ r ≡ held.recordAnswer (now (words .entry)) (now (numbers .entry)) time (now (out .entry)) ⌝ }
+    ensures output { λ _. ⌜ now (out .exit) ≡ held.recordOutput (now (words .entry)) (now (numbers .entry)) time (now (out .entry)) ⌝ }
 {
     if out.len() < 176 {
         return refusals::SHORT_OUTPUT;
@@ -195,5 +195,5 @@ pub extern "C" fn mlat_write_record(
     if !whole(*words, *numbers) {
         return refusals::MALFORMED_RECORD;
     }
-    reader::write(content_of(*words, *numbers, transmit_ps), out)
+    reader::write(content_of(*words, *numbers, time), out)
 }

@@ -13,7 +13,7 @@ use Rattle.words.specs.Words.{u16At, u32At, i64At, f64At}
 use Rattle.problem.specs.declared.Altitude.{Altitude}
 use Rattle.record.specs.declared.content.Fix.{Fix}
 use Rattle.reader.specs.declared.content.Content.{Content}
-use Rattle.reader.specs.Rules.{zeros, goodAnswer, goodDetail, goodN, goodMask, goodDof, goodFloats, goodMetres, goodFix, goodRefusal}
+use Rattle.reader.specs.Tests.{zeros, goodAnswer, goodDetail, goodN, goodMask, goodDof, goodFloats, goodMetres, goodFix, goodRefusal}
 use Rattle.reader.specs.Read.{threeAt, altitudeOf, fixAt, fixed, refused, contentAt}
 
 module _ (s : List ℕ) where

@@ -1,4 +1,5 @@
--- A list of bytes written anew, word by word, over another: the first k bytes are those of s and the others still those of the list written over. Assumes nothing.
+-- A list of bytes written anew, word by word, over another: the first k bytes are those of s, and the others still those of the list
+-- written over. Assumes nothing.
 use Prim.Native.Nat.{ℕ, zero, suc, _+_, _*_, _/_, _%_, _^_, _<_, _≤_}
 use mathlib.Core.Path.{_≡_, refl, sym, ap, subst, _∙_}
 use mathlib.Core.Bool.{Bool, true, not, false≢true}
@@ -58,7 +59,9 @@ module _ (s out : List ℕ) (same : length s ≡ length out) where
     copy-word zero k h = let e : k + 0 ≡ k = omega arith in rw e
     copy-word (suc w) k h =
         let i : k + 1 + w ≡ k + suc w = omega arith in
-        rw (low (getD s k 0) (wordAt w s (k + 1)) (bytes k), high (getD s k 0) (wordAt w s (k + 1)) (bytes k), copy-byte k (omega arith), copy-word w (k + 1) (omega arith), i)
+        let byte = getD s k 0 in
+        let rest = wordAt w s (k + 1) in
+        rw (low byte rest (bytes k), high byte rest (bytes k), copy-byte k (omega arith), copy-word w (k + 1) (omega arith), i)
 
     pub copy-u16 : (k : ℕ) → k + 2 ≤ length out → putU16 (upTo s out k) k (u16At s k) ≡ upTo s out (k + 2)
     unfolding putU16 u16At

@@ -20,29 +20,9 @@ use Rattle.record.specs.declared.content.Fix.{Fix}
 use Rattle.record.specs.Record.{written, foot, blank, kind, metres, fix}
 use Rattle.reader.specs.declared.content.Content.{Content}
 use Rattle.reader.specs.Read.{threeAt, altitudeOf, fixAt, fixed}
+use Rattle.reader.specs.Meaning.{HeldThree, HeldFix}
 use Rattle.reader.proofs.Assembled.{fix-fields, content-fields}
 use Rattle.reader.proofs.Table.{Word, word, putAll, Apart, done, next, Reads, reads, first-read, rest-read}
-
--- what the types of its fields say of three numbers, and of a fix
-pub record HeldThree (v : List Float) : Type 0 where
-  pub size : length v ≡ 3
-  pub x : T (fits binary64 (nth v 0))
-  pub y : T (fits binary64 (nth v 1))
-  pub z : T (fits binary64 (nth v 2))
-
-pub record HeldFix (f : Fix) : Type 0 where
-  pub mask : f .mask < 2 ^ 32
-  pub dof : f .dof < 2 ^ 32
-  pub ecef : HeldThree (f .ecef)
-  pub t : T (fits binary64 (f .t))
-  pub lat : T (fits binary64 (f .position .«lat_deg»))
-  pub lon : T (fits binary64 (f .position .«lon_deg»))
-  pub height : T (fits binary64 (f .position .«height_m»))
-  pub ps : SFits w64 (f .«transmit_ps»)
-  pub r0 : HeldThree (f .r0)
-  pub r1 : HeldThree (f .r1)
-  pub r2 : HeldThree (f .r2)
-  pub chi2 : T (fits binary64 (f .chi2))
 
 abbrev pub bits : Float → ℕ
 bits x = toBits binary64 x
@@ -85,7 +65,7 @@ foot-table : (r : List ℕ) (alt : Altitude) → written r (foot alt) ≡ putAll
 unfolding putAll putU16 putU64 putF64
 foot-table r alt = ap (λ (l : List ℕ). putWord 8 l 168 (bits (metres alt))) (byte-put (putWord 2 r 160 8) 162 (kind alt) (kind-lt alt))
 
-fix-table : (n : ℕ) (alt : Altitude) (f : Fix) → fix n alt f ≡ putAll blank (table n alt f)
+pub fix-table : (n : ℕ) (alt : Altitude) (f : Fix) → fix n alt f ≡ putAll blank (table n alt f)
 unfolding fix table putAll putU16 putU32 putU64 putI64 putF64
 fix-table n alt f = foot-table (putAll blank (front n f)) alt
 
@@ -101,12 +81,13 @@ three-list (a ∷ b ∷ c ∷ []) e = refl
 three-list (a ∷ b ∷ c ∷ d ∷ v) e = absurd (omega arith)
 
 three-back
-    : (s : List ℕ) (k : ℕ) (v : List Float) → HeldThree v → wordAt 8 s k ≡ bits (nth v 0) → wordAt 8 s (k + 8) ≡ bits (nth v 1) → wordAt 8 s (k + 16) ≡ bits (nth v 2)
+    : (s : List ℕ) (k : ℕ) (v : List Float) → HeldThree v
+    → wordAt 8 s k ≡ bits (nth v 0) → wordAt 8 s (k + 8) ≡ bits (nth v 1) → wordAt 8 s (k + 16) ≡ bits (nth v 2)
     → v ≡ threeAt s k
 three-back s k v h x y z =
     sym (three-list v (h .size)) ∙ rw (f64-back s k (nth v 0) x (h .x), f64-back s (k + 8) (nth v 1) y (h .y), f64-back s (k + 16) (nth v 2) z (h .z))
 
-u32-back : (s : List ℕ) (k x : ℕ) → wordAt 4 s k ≡ x → x ≡ u32At s k
+pub u32-back : (s : List ℕ) (k x : ℕ) → wordAt 4 s k ≡ x → x ≡ u32At s k
 unfolding u32At
 u32-back s k x e = sym e
 
@@ -153,6 +134,10 @@ module _ (n : ℕ) (alt : Altitude) (f : Fix) (few : n < 2 ^ 32) (h : HeldFix f)
 
   pub table-read : Reads (fix n alt f) (table n alt f)
   table-read = rw (fix-table n alt f) (reads 176 (table n alt f) blank 0 (length-replicate {A = ℕ} 176 0) apart)
+
+  pub answer-read : u32At (fix n alt f) 0 ≡ 0
+  unfolding table front
+  answer-read = sym (u32-back (fix n alt f) 0 0 (first-read table-read))
 
   pub fix-read : _≡_ {A = Content} (record { answer = 0; detail = f .dof; n = n; altitude = alt; fix = f }) (fixed (fix n alt f))
   unfolding table front

@@ -1,5 +1,6 @@
 -- The laws that the proofs share.
 pub mod Tests
+pub mod Paragraph
 pub mod Places
 pub mod Assembled
 pub mod Copied
@@ -9,3 +10,4 @@ pub mod Meaning
 pub mod Writing
 pub mod Table
 pub mod Fixed
+pub mod Value

@@ -10,7 +10,8 @@ use borrow.Author.Tests.{eq-eqb}
 use Rattle.words.specs.Words.{putWord, putU16, putU32, putU64, putI64, putF64}
 use Rattle.problem.specs.declared.Altitude.the-variants.{None}
 use Rattle.record.specs.Record.{fix}
-use Rattle.reader.specs.Rules.{answerAt, detailAt, nAt, zeros, goodAnswer, goodDetail, goodN, goodFix, goodRefusal, meetsRules}
+use Rattle.reader.specs.Rules.{answerAt, detailAt, nAt}
+use Rattle.reader.specs.Tests.{zeros, goodAnswer, goodDetail, goodN, goodFix, goodRefusal, meetsRules}
 use Rattle.reader.specs.Read.{fixAt, noFix, fixed, refused, contentAt, bytesOf, alone, readable}
 use Rattle.reader.proofs.Copied.{Bytes}
 use Rattle.reader.proofs.Tests.{both-hold, all-4}

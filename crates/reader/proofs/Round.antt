@@ -16,9 +16,11 @@ use Rattle.words.specs.Words.{wordAt, u16At, u32At, u64At, f64At, putU16, putU3
 use Rattle.problem.specs.declared.Altitude.the-variants.{None, Barometric, Gnss}
 use Rattle.record.specs.Record.{putThree, written, head, foot, kind, metres, blank, fix, refusal}
 use Rattle.record.proofs.Parts.{parts}
-use Rattle.reader.specs.Rules.{answerAt, detailAt, nAt, maskAt, versionAt, kindAt, goodAnswer, goodDetail, goodMask, goodDof, zeros, finite, goodN, goodFloats, goodMetres, goodFix, goodRefusal, meetsRules}
+use Rattle.reader.specs.Rules.{answerAt, detailAt, nAt, maskAt, versionAt, kindAt}
+use Rattle.reader.specs.Tests.{goodAnswer, goodDetail, goodMask, goodDof, zeros, goodN, goodFloats, goodMetres}
+use Rattle.reader.specs.Tests.{goodFix, goodRefusal, meetsRules}
 use Rattle.reader.specs.Read.{threeAt, altitudeOf, fixAt, fixed, refused, contentAt, bytesOf}
-use Rattle.reader.proofs.Tests.{both-true, all-3, all-4, all-8, zeros-at, finite-at}
+use Rattle.reader.proofs.Tests.{both-true, all-4, all-8, zeros-at, low-finite, high-finite, metres-finite}
 use Rattle.reader.proofs.Copied.{Bytes, upTo, copy-byte, skip-byte, copy-u16, copy-u32, copy-i64, copy-f64}
 
 -- ---- the altitude
@@ -51,7 +53,7 @@ zero-metres s k g e =
     rw (b0, b1, b2, b3, b4, b5, b6, b7)
 
 -- n is shown where the definition of a refusal shows it
-n-shown : (b : Bool) (n : ℕ) → leb n (cond b 32 0) ≡ true → cond b n 0 ≡ n
+pub n-shown : (b : Bool) (n : ℕ) → leb n (cond b 32 0) ≡ true → cond b n 0 ≡ n
 n-shown true n e = refl
 n-shown false n e = let h : n ≤ 0 = leb-true n 0 e in omega arith
 
@@ -88,7 +90,9 @@ module _ (s : List ℕ) (sized : length s ≡ 176) (bytes : Bytes s) where
   f64 : (k : ℕ) → k + 8 ≤ 176 → isFinite (f64At s k) ≡ true → putF64 (upTo s blank k) k (f64At s k) ≡ upTo s blank (k + 8)
   f64 k h f = copy-f64 s blank same bytes k (room _ h) f
 
-  head-copied : (answer detail n : ℕ) → answer ≡ u32At s 0 → detail ≡ u32At s 4 → n ≡ u32At s 8 → written blank (head answer detail n) ≡ upTo s blank 12
+  head-copied
+      : (answer detail n : ℕ) → answer ≡ u32At s 0 → detail ≡ u32At s 4 → n ≡ u32At s 8
+      → written blank (head answer detail n) ≡ upTo s blank 12
   head-copied answer detail n ea ed en =
       rw (ea, ed, en)
       (ap (λ (l : List ℕ). putU32 (putU32 (putU32 l 0 (u32At s 0)) 4 (u32At s 4)) 8 (u32At s 8)) begin
@@ -119,18 +123,20 @@ module _ (s : List ℕ) (sized : length s ≡ 176) (bytes : Bytes s) where
   pub refusal-again : goodRefusal s ≡ true → refusal (answerAt s) (detailAt s) (nAt s) ≡ s
   unfolding refusal goodRefusal goodN
   refusal-again g =
-      let r = all-4 (goodAnswer (answerAt s)) (goodDetail (answerAt s) (detailAt s)) (leb (nAt s) (cond (leb (answerAt s) 9) 32 0)) (zeros s 12 164) g in
+      let shown = leb (nAt s) (cond (leb (answerAt s) 9) 32 0) in
+      let r = all-4 (goodAnswer (answerAt s)) (goodDetail (answerAt s) (detailAt s)) shown (zeros s 12 164) g in
       head-copied (answerAt s) (detailAt s) (cond (leb (answerAt s) 9) (nAt s) 0) refl refl (n-shown (leb (answerAt s) 9) (nAt s) (r .2))
       ∙ skip-zeros 12 164 (omega arith) (r .3)
       ∙ end
 
   pub fix-again : answerAt s ≡ 0 → goodFix s ≡ true → fix (nAt s) (altitudeOf (kindAt s) (f64At s 168)) (fixAt s) ≡ s
-  unfolding fixAt goodFix goodFloats
+  unfolding fixAt goodFix
   fix-again a g =
-      let r = all-8 (leb (nAt s) 32) (eqb (versionAt s) 8) (leb (kindAt s) 2) (finite s 16 7 && (finite s 80 10 && finite s 168 1)) (goodMask (maskAt s) (nAt s)) (goodDof (maskAt s) (kindAt s) (detailAt s)) (zeros s 163 5) (goodMetres (kindAt s) s) g in
-      let f = all-3 (finite s 16 7) (finite s 80 10) (finite s 168 1) (r .3) in
-      let low = finite-at s 16 7 (f .0) in
-      let mid = finite-at s 80 10 (f .1) in
+      let mask = goodMask (maskAt s) (nAt s) in
+      let dof = goodDof (maskAt s) (kindAt s) (detailAt s) in
+      let r = all-8 (leb (nAt s) 32) (eqb (versionAt s) 8) (leb (kindAt s) 2) (goodFloats s) mask dof (zeros s 163 5) (goodMetres (kindAt s) s) g in
+      let low = low-finite s g in
+      let mid = high-finite s g in
       sym
       (parts (nAt s) (altitudeOf (kindAt s) (f64At s 168)) (fixAt s)
       (upTo s blank 12) (upTo s blank 16) (upTo s blank 40) (upTo s blank 48) (upTo s blank 56) (upTo s blank 64) (upTo s blank 72)
@@ -147,7 +153,7 @@ module _ (s : List ℕ) (sized : length s ≡ 176) (bytes : Bytes s) where
       (sym (three 104 (omega arith) (mid 3 (lit< tt)) (mid 4 (lit< tt)) (mid 5 (lit< tt))))
       (sym (three 128 (omega arith) (mid 6 (lit< tt)) (mid 7 (lit< tt)) (mid 8 (lit< tt))))
       (sym (f64 152 (omega arith) (mid 9 (lit< tt))))
-      (sym (foot-copied (eqb-true _ _ (r .1)) (leb-true _ _ (r .2)) (r .6) (r .7) (finite-at s 168 1 (f .2) 0 (lit< tt)))))
+      (sym (foot-copied (eqb-true _ _ (r .1)) (leb-true _ _ (r .2)) (r .6) (r .7) (metres-finite s g))))
 
   by-answer
       : (b : Bool) → eqb (answerAt s) 0 ≡ b → cond b (goodFix s) (goodRefusal s) ≡ true

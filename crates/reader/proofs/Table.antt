@@ -28,7 +28,8 @@ pub data Reads (s : List ℕ) : List Word → Type 0 where
 keep : (size : ℕ) (ws : List Word) (r : List ℕ) (v j e : ℕ) → j + v ≤ e → Apart size e ws → wordAt v (putAll r ws) j ≡ wordAt v r j
 unfolding putAll
 keep size [] r v j e h done = refl
-keep size (word w k x ∷ ws) r v j e h (next a b c d) = keep size ws (putWord w r k x) v j (k + w) (omega arith) d ∙ read-elsewhere v w r k x j (inl (omega arith))
+keep size (word w k x ∷ ws) r v j e h (next a b c d) =
+    keep size ws (putWord w r k x) v j (k + w) (omega arith) d ∙ read-elsewhere v w r k x j (inl (omega arith))
 
 pub reads : (size : ℕ) (ws : List Word) (r : List ℕ) (e : ℕ) → length r ≡ size → Apart size e ws → Reads (putAll r ws) ws
 unfolding putAll

@@ -11,7 +11,8 @@ use borrow.Author.Tests.{eqb-true}
 use Rattle.binary64.specs.Steps.{isFinite}
 use Rattle.sets.proofs.Tests.{lt-suc-cases}
 use Rattle.words.specs.Words.{f64At}
-use Rattle.reader.specs.Rules.{answerAt, detailAt, nAt, maskAt, versionAt, kindAt, zeros, finite, goodMask, goodDof, goodFloats, goodMetres, goodFix, meetsRules}
+use Rattle.reader.specs.Rules.{answerAt, detailAt, nAt, maskAt, versionAt, kindAt}
+use Rattle.reader.specs.Tests.{zeros, finite, goodMask, goodDof, goodFloats, goodMetres, goodFix, meetsRules}
 
 pub both-hold : (a b : Bool) → a ≡ true → b ≡ true → (a && b) ≡ true
 both-hold a b p q = rw (p, q)

@@ -1,3 +1,4 @@
 pub mod Rules
+pub mod Tests
 pub mod Read
 pub mod Meaning

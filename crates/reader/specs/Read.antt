@@ -1,4 +1,5 @@
--- Document 02, item 1: the record at a place of a file, what a record holds, and the bytes of what was read. Definitions only.
+-- Document 02, item 1: the record at a place of a file, what a record holds, and the bytes of what was read. Definitions
+-- only.
 use Prim.Native.Nat.{ℕ, _+_, _*_, _/_, _%_}
 use mathlib.Core.Bool.{Bool, not, cond, _&&_}
 use mathlib.Core.List.{List, [], _∷_}
@@ -15,7 +16,8 @@ use Rattle.record.specs.declared.content.Fix.{Fix}
 use Rattle.record.specs.Record.{fix, refusal, stored}
 use Rattle.reader.specs.declared.content.Content.{Content}
 use Rattle.reader.specs.declared.content.Reading.{Reading}
-use Rattle.reader.specs.Rules.{answerAt, detailAt, nAt, maskAt, kindAt, zeros, goodN, meetsRules}
+use Rattle.reader.specs.Rules.{answerAt, detailAt, nAt, maskAt, kindAt}
+use Rattle.reader.specs.Tests.{zeros, goodN, meetsRules}
 
 -- ---- the record at a place of a file
 
@@ -71,10 +73,22 @@ noFix = record {
 
 -- a refusal shows "number, detail and (for 1 to 9) n"
 abbrev pub refused : ℕ → ℕ → ℕ → Content
-refused answer detail n = record { answer = answer; detail = detail; n = n; altitude = None; fix = noFix }
+refused answer detail n = record {
+  answer = answer;
+  detail = detail;
+  n = n;
+  altitude = None;
+  fix = noFix;
+}
 
 abbrev pub fixed : List ℕ → Content
-fixed s = record { answer = 0; detail = detailAt s; n = nAt s; altitude = altitudeOf (kindAt s) (f64At s 168); fix = fixAt s }
+fixed s = record {
+  answer = 0;
+  detail = detailAt s;
+  n = nAt s;
+  altitude = altitudeOf (kindAt s) (f64At s 168);
+  fix = fixAt s;
+}
 
 unfoldable pub contentAt : List ℕ → Content
 unfolding fixAt
@@ -86,7 +100,10 @@ turnedAway refusal = record { refusal = refusal; content = refused 0 0 0 }
 
 -- "a length other than 176 is 16", "18 malformed record"
 unfoldable pub readOf : List ℕ → Reading
-readOf s = cond (eqb (length s) 176) (cond (meetsRules s) (record { refusal = 0; content = contentAt s }) (turnedAway malformedRecord)) (turnedAway tornFile)
+readOf s =
+    cond (eqb (length s) 176)
+    (cond (meetsRules s) (record { refusal = 0; content = contentAt s }) (turnedAway malformedRecord))
+    (turnedAway tornFile)
 
 -- ---- the bytes of what was read
 
@@ -101,7 +118,9 @@ alone v = let r = fix 0 (v .altitude) (v .fix) in zeros r 0 160 && zeros r 161 1
 -- the values that a read gives: their bytes meet the rules, and no field is lost in these
 unfoldable pub readable : Content → Bool
 unfolding alone
-readable v = meetsRules (bytesOf v) && cond (eqb (v .answer) 0) (eqb (v .detail) (v .fix .dof)) (goodN (v .answer) (v .n) && alone v)
+readable v =
+    meetsRules (bytesOf v)
+    && cond (eqb (v .answer) 0) (eqb (v .detail) (v .fix .dof)) (goodN (v .answer) (v .n) && alone v)
 
 -- 14: "under 176 bytes lent"; "any other value gets 18"
 unfoldable pub writeAnswer : Content → List ℕ → ℕ

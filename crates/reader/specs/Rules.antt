@@ -1,9 +1,13 @@
--- Document 02, item 1: the rules that a record of 176 bytes meets, each with its sentence. The fields stand where document 01's table has them. Definitions only.
-use Prim.Native.Nat.{ℕ, zero, suc, _+_, _*_, _^_}
-use mathlib.Core.Bool.{Bool, true, not, cond, _&&_, _||_}
+-- Document 02, item 1: "It takes apart exactly the records that meet these rules." The rules of a list of 176 bytes, sentence
+-- by sentence; the fields stand where document 01's table has them. Definitions only.
+use Prim.Native.Nat.{ℕ, _+_, _*_, _<_, _≤_}
+use mathlib.Core.Path.{_≡_}
+use mathlib.Core.Bool.{true, cond}
+use mathlib.Core.Logic.{_⊎_}
 use mathlib.Core.List.{List}
-use lib.Dec.{leb, ltb, eqb}
+use lib.Dec.{T, eqb}
 use lib.ListN.{getD}
+use Rattle.refusals.specs.Refusals as refusals
 use Rattle.binary64.specs.Steps.{isFinite}
 use Rattle.sets.specs.Sets.{count}
 use Rattle.sets.specs.Mask.{has}
@@ -31,74 +35,56 @@ kindAt s = getD s 162 0
 
 -- ---- parts of a rule
 
-abbrev pub between : ℕ → ℕ → ℕ → Bool
-between low high x = leb low x && leb x high
+-- every byte from `from` on and before `to` is zero
+abbrev pub Zero : List ℕ → ℕ → ℕ → Type 0
+Zero s from to = (j : ℕ) → from ≤ j → j < to → getD s j 0 ≡ 0
 
--- the bytes from k on are zero, so many of them
-unfoldable pub zeros : List ℕ → ℕ → ℕ → Bool
-zeros s k zero = true
-zeros s k (suc i) = zeros s k i && eqb (getD s (k + i) 0) 0
+-- the f64 from byte k on is finite
+abbrev pub Finite : List ℕ → ℕ → Type 0
+Finite s k = isFinite (f64At s k) ≡ true
 
--- the f64 from byte k on are finite, so many of them
-unfoldable pub finite : List ℕ → ℕ → ℕ → Bool
-finite s k zero = true
-finite s k (suc i) = finite s k i && isFinite (f64At s (k + 8 * i))
+-- Document 01: dof is "used receptions, plus one with altitude, less 4", and "the number of ones in the mask is the count of
+-- used receptions". Nothing equals a dof below zero.
+abbrev pub IsDof : ℕ → ℕ → ℕ → Type 0
+IsDof mask kind detail = detail + 4 ≡ count (has mask) 32 + cond (eqb kind 0) 0 1
 
 -- ---- the rules
 
--- "The answer is 0 to 13 or 15"
-abbrev pub goodAnswer : ℕ → Bool
-goodAnswer answer = leb answer 13 || eqb answer 15
-
 -- "A refusal's detail is at most 3 for 1, 1 to 31 for 11, 0 to 31, 100 to 131 or 200 for 12, else 0."
-unfoldable pub goodDetail : ℕ → ℕ → Bool
-goodDetail answer detail =
-    cond (eqb answer 1) (leb detail 3)
-    (cond (eqb answer 11) (between 1 31 detail)
-    (cond (eqb answer 12) (leb detail 31 || (between 100 131 detail || eqb detail 200))
-    (eqb detail 0)))
+pub record DetailRule (answer detail : ℕ) : Type 0 where
+  pub tooFew : answer ≡ refusals.tooFew → detail ≤ 3
+  pub disorder : answer ≡ refusals.disorder → (1 ≤ detail) × (detail ≤ 31)
+  pub badField
+      : answer ≡ refusals.badField → (detail ≤ 31) ⊎ (((100 ≤ detail) × (detail ≤ 131)) ⊎ (detail ≡ 200))
+  pub others
+      : (answer ≡ refusals.tooFew → ⊥) → (answer ≡ refusals.disorder → ⊥) → (answer ≡ refusals.badField → ⊥) → detail ≡ 0
 
--- "n at most 32"; in a refusal the solve shows n "(for 1 to 9)", so it is unused from 10 on
-unfoldable pub goodN : ℕ → ℕ → Bool
-goodN answer n = leb n (cond (leb answer 9) 32 0)
+pub record FixRules (s : List ℕ) : Type 0 where
+  -- "A fix has version 8, altitude kind 0 to 2,"
+  pub version : versionAt s ≡ 8
+  pub kind : kindAt s ≤ 2
+  -- "finite floats,": ECEF, T and the position from byte 16 on, the covariance and chi2 from 80 on, the altitude metres
+  pub places : (i : ℕ) → i < 7 → Finite s (16 + 8 * i)
+  pub claims : (i : ℕ) → i < 10 → Finite s (80 + 8 * i)
+  pub metres : Finite s 168
+  -- "a mask within n,"
+  pub mask : (i : ℕ) → T (has (maskAt s) i) → i < nAt s
+  -- "and a detail equal to its dof."
+  pub dof : IsDof (maskAt s) (kindAt s) (detailAt s)
+  -- "fillers and unused fields are zero": the five bytes past the kind, and the metres where there is no altitude
+  pub filler : Zero s 163 168
+  pub unused : kindAt s ≡ 0 → Zero s 168 176
 
--- "a mask within n"
-unfoldable pub goodMask : ℕ → ℕ → Bool
-goodMask mask n = ltb mask (2 ^ n)
+pub record RefusalRules (s : List ℕ) : Type 0 where
+  pub detail : DetailRule (answerAt s) (detailAt s)
+  -- "unused fields are zero": n from 10 on, since a refusal shows it "for 1 to 9", and all that follows n
+  pub n : 9 < answerAt s → nAt s ≡ 0
+  pub unused : Zero s 12 176
 
--- "a detail equal to its dof". Document 01: "dof: used receptions, plus one with altitude, less 4"
-unfoldable pub goodDof : ℕ → ℕ → ℕ → Bool
-goodDof mask kind detail = eqb (detail + 4) (count (has mask) 32 + cond (eqb kind 0) 0 1)
-
--- "finite floats": ECEF, T and the position; the covariance and chi2; the altitude metres
-unfoldable pub goodFloats : List ℕ → Bool
-goodFloats s = finite s 16 7 && (finite s 80 10 && finite s 168 1)
-
--- "unused fields are zero": where there is no altitude, its metres are zero bytes
-unfoldable pub goodMetres : ℕ → List ℕ → Bool
-goodMetres kind s = not (eqb kind 0) || zeros s 168 8
-
--- "A fix has version 8, altitude kind 0 to 2, finite floats, a mask within n, and a detail equal to its dof."
--- "fillers .. are zero": five bytes
-unfoldable pub goodFix : List ℕ → Bool
-goodFix s =
-    leb (nAt s) 32
-    && (eqb (versionAt s) 8
-    && (leb (kindAt s) 2
-    && (goodFloats s
-    && (goodMask (maskAt s) (nAt s)
-    && (goodDof (maskAt s) (kindAt s) (detailAt s)
-    && (zeros s 163 5 && goodMetres (kindAt s) s))))))
-
--- in a refusal all fields past n are unused
-unfoldable pub goodRefusal : List ℕ → Bool
-goodRefusal s =
-    goodAnswer (answerAt s)
-    && (goodDetail (answerAt s) (detailAt s)
-    && (goodN (answerAt s) (nAt s)
-    && zeros s 12 164))
-
--- a record is a fix where its answer is 0
-unfoldable pub meetsRules : List ℕ → Bool
-unfolding goodFix goodRefusal goodN goodDetail goodFloats goodMask goodDof goodMetres zeros finite
-meetsRules s = cond (eqb (answerAt s) 0) (goodFix s) (goodRefusal s)
+pub record Rules (s : List ℕ) : Type 0 where
+  -- "The answer is 0 to 13 or 15, n at most 32,"
+  pub answer : (answerAt s ≤ 13) ⊎ (answerAt s ≡ 15)
+  pub n : nAt s ≤ 32
+  -- document 01: "For a fix the answer is 0"
+  pub fix : answerAt s ≡ 0 → FixRules s
+  pub refusal : (answerAt s ≡ 0 → ⊥) → RefusalRules s

@@ -5,7 +5,7 @@ ghost use Prim.Native.Nat.{_+_, _≤_};
 ghost use lib.ListN.{length};
 ghost use Rattle.binary64.specs.Steps.{isFinite};
 ghost use Rattle.words.specs.Words.{f64At};
-ghost use Rattle.reader.specs.Rules.{finite, meetsRules, goodFix};
+ghost use Rattle.reader.specs.Tests.{finite, meetsRules, goodFix};
 ghost use Rattle.reader.specs.Read as reads;
 use crate::content::Content;
 use geo::Geodetic;

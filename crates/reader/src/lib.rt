@@ -87,11 +87,11 @@ fn alone(v: Content) -> bool
     rules::both(rules::zeros(&bytes, 0, 160), rules::zeros(&bytes, 161, 15))
 }
 
-// Whether a read gives this value.
-fn readable(v: Content) -> bool
+// Whether a read gives this value, from its bytes.
+fn readable(v: Content, bytes: [u8; 176]) -> bool
+    requires { ⌜ bytes ≡ reads.bytesOf v ⌝ }
     ensures { λ r. ⌜ r ≡ reads.readable v ⌝ }
 {
-    let bytes = bytes_of(v);
     let good = rules::meets_rules(&bytes);
     if v.answer == 0 {
         let fix = v.fix;
@@ -104,14 +104,16 @@ fn readable(v: Content) -> bool
 // What was read, as bytes again, into the first 176 of the output: 14 where it is shorter, 18 for a
 // value that no read gives.
 pub fn write(v: Content, out: &mut [u8]) -> u32
-    ensures { λ r. ⌜ (r ≡ reads.writeAnswer v (now (out .entry))) × (now (out .exit) ≡ reads.writeOutput v (now (out .entry))) ⌝ }
+    ensures answer { λ r. ⌜ r ≡ reads.writeAnswer v (now (out .entry)) ⌝ }
+    ensures output { λ _. ⌜ now (out .exit) ≡ reads.writeOutput v (now (out .entry)) ⌝ }
 {
     if out.len() < SIZE {
         return refusals::SHORT_OUTPUT;
     }
-    if !readable(v) {
+    let bytes = bytes_of(v);
+    if !readable(v, bytes) {
         return refusals::MALFORMED_RECORD;
     }
-    record::store(out, bytes_of(v));
+    record::store(out, bytes);
     0
 }

@@ -4,7 +4,7 @@ ghost use mathlib.Core.Bool.{_&&_, _||_};
 ghost use Prim.Native.Nat.{_+_, _*_, _≤_};
 ghost use lib.ListN.{length};
 ghost use Rattle.binary64.specs.Steps.{#, isFinite};
-ghost use Rattle.reader.specs.Rules as rules;
+ghost use Rattle.reader.specs.Tests as tests;
 
 // The sign bit of an f64, and the bits of infinity.
 const SIGN: u64 = 0x8000_0000_0000_0000;
@@ -30,7 +30,7 @@ fn either(a: bool, b: bool) -> bool
 }
 
 fn between(low: u32, high: u32, x: u32) -> bool
-    ensures { λ r. ⌜ r ≡ rules.between low high x ⌝ }
+    ensures { λ r. ⌜ r ≡ tests.between low high x ⌝ }
 {
     both(low <= x, x <= high)
 }
@@ -38,7 +38,7 @@ fn between(low: u32, high: u32, x: u32) -> bool
 // Whether the bytes from k on are zero, so many of them.
 pub fn zeros(s: &[u8], k: usize, count: usize) -> bool
     requires { ⌜ k + count ≤ length (now s) ⌝ }
-    ensures { λ r. ⌜ r ≡ rules.zeros (now (s .entry)) k count ⌝ }
+    ensures { λ r. ⌜ r ≡ tests.zeros (now (s .entry)) k count ⌝ }
 {
     let mut good = true;
     for i in 0..count {
@@ -57,7 +57,7 @@ fn finite_bits(bits: u64) -> bool
 // Whether the f64 from byte k on are finite, so many of them.
 fn finite(s: &[u8], k: usize, count: usize) -> bool
     requires { ⌜ k + 8 * count ≤ length (now s) ⌝ }
-    ensures { λ r. ⌜ r ≡ rules.finite (now (s .entry)) k count ⌝ }
+    ensures { λ r. ⌜ r ≡ tests.finite (now (s .entry)) k count ⌝ }
 {
     let mut good = true;
     for i in 0..count {
@@ -67,13 +67,13 @@ fn finite(s: &[u8], k: usize, count: usize) -> bool
 }
 
 fn good_answer(answer: u32) -> bool
-    ensures { λ r. ⌜ r ≡ rules.goodAnswer answer ⌝ }
+    ensures { λ r. ⌜ r ≡ tests.goodAnswer answer ⌝ }
 {
     either(answer <= 13, answer == 15)
 }
 
 fn good_detail(answer: u32, detail: u32) -> bool
-    ensures { λ r. ⌜ r ≡ rules.goodDetail answer detail ⌝ }
+    ensures { λ r. ⌜ r ≡ tests.goodDetail answer detail ⌝ }
 {
     if answer == 1 {
         return detail <= 3;
@@ -91,7 +91,7 @@ fn good_detail(answer: u32, detail: u32) -> bool
 
 // A refusal from 10 on shows no n.
 pub fn good_n(answer: u32, n: u32) -> bool
-    ensures { λ r. ⌜ r ≡ rules.goodN answer n ⌝ }
+    ensures { λ r. ⌜ r ≡ tests.goodN answer n ⌝ }
 {
     if answer <= 9 {
         return n <= 32;
@@ -101,14 +101,14 @@ pub fn good_n(answer: u32, n: u32) -> bool
 
 fn good_mask(mask: u32, n: u32) -> bool
     requires { ⌜ n ≤ 32 ⌝ }
-    ensures { λ r. ⌜ r ≡ rules.goodMask mask n ⌝ }
+    ensures { λ r. ⌜ r ≡ tests.goodMask mask n ⌝ }
 {
     (mask as u64) < (1u64 << n)
 }
 
 // Document 01: dof is the used receptions, plus one with altitude, less 4.
 fn good_dof(mask: u32, kind: u8, detail: u32) -> bool
-    ensures { λ r. ⌜ r ≡ rules.goodDof mask kind detail ⌝ }
+    ensures { λ r. ⌜ r ≡ tests.goodDof mask kind detail ⌝ }
 {
     let used = sets::count(mask) as u64;
     let due = detail as u64 + 4;
@@ -121,7 +121,7 @@ fn good_dof(mask: u32, kind: u8, detail: u32) -> bool
 // ECEF, the transmit time and the position; the covariance and chi-square; the altitude metres.
 fn good_floats(s: &[u8]) -> bool
     requires { ⌜ length (now s) ≡ 176 ⌝ }
-    ensures { λ r. ⌜ r ≡ rules.goodFloats (now (s .entry)) ⌝ }
+    ensures { λ r. ⌜ r ≡ tests.goodFloats (now (s .entry)) ⌝ }
 {
     both(finite(s, 16, 7), both(finite(s, 80, 10), finite(s, 168, 1)))
 }
@@ -129,14 +129,14 @@ fn good_floats(s: &[u8]) -> bool
 // Where there is no altitude, its metres are zero bytes.
 fn good_metres(s: &[u8], kind: u8) -> bool
     requires { ⌜ length (now s) ≡ 176 ⌝ }
-    ensures { λ r. ⌜ r ≡ rules.goodMetres kind (now (s .entry)) ⌝ }
+    ensures { λ r. ⌜ r ≡ tests.goodMetres kind (now (s .entry)) ⌝ }
 {
     either(kind != 0, zeros(s, 168, 8))
 }
 
 fn good_fix(s: &[u8]) -> bool
     requires { ⌜ length (now s) ≡ 176 ⌝ }
-    ensures { λ r. ⌜ r ≡ rules.goodFix (now (s .entry)) ⌝ }
+    ensures { λ r. ⌜ r ≡ tests.goodFix (now (s .entry)) ⌝ }
 {
     let n = words::u32_at(s, 8);
     if 32 < n {
@@ -157,7 +157,7 @@ fn good_fix(s: &[u8]) -> bool
 
 fn good_refusal(s: &[u8]) -> bool
     requires { ⌜ length (now s) ≡ 176 ⌝ }
-    ensures { λ r. ⌜ r ≡ rules.goodRefusal (now (s .entry)) ⌝ }
+    ensures { λ r. ⌜ r ≡ tests.goodRefusal (now (s .entry)) ⌝ }
 {
     let answer = words::u32_at(s, 0);
     let detail = words::u32_at(s, 4);
@@ -172,7 +172,7 @@ fn good_refusal(s: &[u8]) -> bool
 // Whether a record meets the rules.
 pub fn meets_rules(s: &[u8]) -> bool
     requires { ⌜ length (now s) ≡ 176 ⌝ }
-    ensures { λ r. ⌜ r ≡ rules.meetsRules (now (s .entry)) ⌝ }
+    ensures { λ r. ⌜ r ≡ tests.meetsRules (now (s .entry)) ⌝ }
 {
     if words::u32_at(s, 0) == 0 {
         return good_fix(s);

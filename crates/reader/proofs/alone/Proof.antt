@@ -24,7 +24,9 @@ both-requires c κs = search needs
 
 returns : tie.Need-returns
 unfolding alone
-returns c = rw (c .both .ensures, c .before .before .before .zeros .ensures, c .before .zeros2 .ensures, c .before .before .before .before .before .fix2 .ensures)
+returns c =
+    let low = c .before .before .before in
+    rw (c .both .ensures, low .zeros .ensures, c .before .zeros2 .ensures, low .before .before .fix2 .ensures)
 
 pub alone-spec : {M : Type 1} → statement M
 alone-spec =

@@ -21,14 +21,22 @@ turned-away-requires-2 c κs = search needs
 
 returns-2 : tie.Need-returns-2
 unfolding readOf
-returns-2 c = rw (eq-eqb _ _ (c .before .before .before .if1 .left), ← c .before .before .meets-rules .ensures, not-true (c .before .before .meets-rules .result) (c .before .if2 .taken)) (c .turned-away2 .ensures)
+returns-2 c =
+    let test = c .before .before in
+    let sized = eq-eqb _ _ (test .before .if1 .left) in
+    rw (sized, ← test .meets-rules .ensures, not-true (test .meets-rules .result) (c .before .if2 .taken)) (c .turned-away2 .ensures)
 
 content-at-requires : tie.Need-content-at-requires
-content-at-requires c κs = (c .before .before .if1 .left, sym (c .before .meets-rules .ensures) ∙ not-false (c .before .meets-rules .result) (c .if2 .left))
+content-at-requires c κs =
+    let test = c .before in
+    (test .before .if1 .left, sym (test .meets-rules .ensures) ∙ not-false (test .meets-rules .result) (c .if2 .left))
 
 returns-3 : tie.Need-returns-3
 unfolding readOf
-returns-3 c = rw (eq-eqb _ _ (c .before .before .before .if1 .left), ← c .before .before .meets-rules .ensures, not-false (c .before .before .meets-rules .result) (c .before .if2 .left), c .content-at .ensures)
+returns-3 c =
+    let test = c .before .before in
+    let sized = eq-eqb _ _ (test .before .if1 .left) in
+    rw (sized, ← test .meets-rules .ensures, not-false (test .meets-rules .result) (c .before .if2 .left), c .content-at .ensures)
 
 pub read-spec : {M : Type 1} → statement M
 read-spec =

@@ -1,12 +1,10 @@
 -- `reader::readable` meets its contract. Either return is a case of the definition. Assumes nothing.
 use borrow.Author.Needs.{needs}
-use borrow.Author.Tests.{eq-eqb, ne-eqb}
-use Rattle.reader.specs.Read.{readable}
+use mathlib.Core.Path.{ap, _∙_}
+use Rattle.reader.specs.Tests.{meetsRules}
+use Rattle.reader.proofs.Writing.{fix-readable, refusal-readable}
 use Rattle.reader.proofs.readable.Statement.{statement}
 use Rattle.reader.proofs.readable.Tie as tie
-
-bytes-of-requires : tie.Need-bytes-of-requires
-bytes-of-requires c κs = search needs
 
 slice-aggregate-meets-rules : tie.Need-slice-aggregate-meets-rules
 slice-aggregate-meets-rules c = search needs
@@ -18,8 +16,13 @@ both-requires : tie.Need-both-requires
 both-requires c κs = search needs
 
 returns : tie.Need-returns
-unfolding readable
-returns c = rw (c .both .ensures, c .before .before .before .before .before .before .meets-rules .ensures, c .before .before .before .before .before .before .before .before .bytes-of .ensures, eq-eqb _ _ (c .before .before .before .before .if1 .taken))
+returns c =
+    let test = c .before .before .before .before in
+    let rules = test .before .before in
+    let start = rules .before .before in
+    fix-readable (start .args .v) (rules .meets-rules .result) (rules .meets-rules .ensures ∙ ap meetsRules (start .pre))
+    (test .if1 .taken)
+    (c .both .ensures)
 
 good-n-requires : tie.Need-good-n-requires
 good-n-requires c κs = search needs
@@ -34,14 +37,21 @@ both-requires-3 : tie.Need-both-requires-3
 both-requires-3 c κs = search needs
 
 returns-2 : tie.Need-returns-2
-unfolding readable
-returns-2 c = rw (c .both3 .ensures, c .before .both2 .ensures, c .before .before .before .before .before .before .meets-rules .ensures, c .before .before .alone .ensures, c .before .before .before .good-n .ensures, c .before .before .before .before .before .before .before .before .bytes-of .ensures, ne-eqb _ _ (c .before .before .before .before .if1 .left))
+returns-2 c =
+    let test = c .before .before .before .before in
+    let rules = test .before .before in
+    let start = rules .before .before in
+    refusal-readable (start .args .v) (rules .meets-rules .result) (rules .meets-rules .ensures ∙ ap meetsRules (start .pre))
+    (test .if1 .left)
+    (c .before .before .before .good-n .ensures)
+    (c .before .before .alone .ensures)
+    (c .before .both2 .ensures)
+    (c .both3 .ensures)
 
 pub readable-spec : {M : Type 1} → statement M
 readable-spec =
     tie.close
     (tie.spec
-    bytes-of-requires
     slice-aggregate-meets-rules
     meets-rules-requires
     both-requires

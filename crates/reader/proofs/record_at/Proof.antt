@@ -21,16 +21,21 @@ part-result-end : tie.Need-part-result-end
 part-result-end c = search needs
 
 returns : tie.Need-returns
-returns c = refused (c .before .before .before .before .args .file .now) (c .before .before .before .before .args .place) (c .before .before .place-refusal .result) (c .before .before .place-refusal .ensures) (c .before .if1 .taken)
+returns c =
+    let place = c .before .before in
+    let args = place .before .before .args in
+    refused (args .file .now) (args .place) (place .place-refusal .result) (place .place-refusal .ensures) (c .before .if1 .taken)
 
 mul-at : tie.Need-mul-at
 mul-at c =
-    let h : 176 * c .before .before .before .args .place + 176 ≤ length (c .before .before .before .args .file .now) = within-file _ _ (sym (c .before .place-refusal .ensures) ∙ c .if1 .left) in
+    let args = c .before .before .before .args in
+    let h : 176 * args .place + 176 ≤ length (args .file .now) = within-file _ _ (sym (c .before .place-refusal .ensures) ∙ c .if1 .left) in
     omega arith
 
 add-end : tie.Need-add-end
 add-end c =
-    let h : 176 * c .before .before .before .args .place + 176 ≤ length (c .before .before .before .args .file .now) = within-file _ _ (sym (c .before .place-refusal .ensures) ∙ c .if1 .left) in
+    let args = c .before .before .before .args in
+    let h : 176 * args .place + 176 ≤ length (args .file .now) = within-file _ _ (sym (c .before .place-refusal .ensures) ∙ c .if1 .left) in
     omega arith
 
 sub-result-2 : tie.Need-sub-result-2
@@ -41,13 +46,16 @@ part-result-start-2 c = search needs
 
 part-result-end-2 : tie.Need-part-result-end-2
 part-result-end-2 c =
-    let h : 176 * c .before .before .before .args .place + 176 ≤ length (c .before .before .before .args .file .now) = within-file _ _ (sym (c .before .place-refusal .ensures) ∙ c .if1 .left) in
+    let args = c .before .before .before .args in
+    let h : 176 * args .place + 176 ≤ length (args .file .now) = within-file _ _ (sym (c .before .place-refusal .ensures) ∙ c .if1 .left) in
     omega arith
 
 returns-2 : tie.Need-returns-2
 returns-2 c =
-    let e : 176 * c .before .before .before .before .args .place + 176 - 176 * c .before .before .before .before .args .place ≡ 176 = omega arith in
-    rw e (there (c .before .before .before .before .args .file .now) (c .before .before .before .before .args .place) (c .before .before .place-refusal .result) (c .before .before .place-refusal .ensures) (c .before .if1 .left))
+    let place = c .before .before in
+    let args = place .before .before .args in
+    let e : 176 * args .place + 176 - 176 * args .place ≡ 176 = omega arith in
+    rw e (there (args .file .now) (args .place) (place .place-refusal .result) (place .place-refusal .ensures) (c .before .if1 .left))
 
 pub record-at-spec : {M : Type 1} → statement M
 record-at-spec =

@@ -7,16 +7,21 @@ use Rattle.reader.proofs.write.Statement.{statement}
 use Rattle.reader.proofs.write.Tie as tie
 
 returns : tie.Need-returns
-returns c = short (c .before .before .args .v) (c .before .before .args .out .now) (c .if1 .taken)
-
-readable-requires : tie.Need-readable-requires
-readable-requires c κs = search needs
-
-returns-2 : tie.Need-returns-2
-returns-2 c = unread (c .before .before .before .before .args .v) (c .before .before .before .before .args .out .now) (c .before .before .if1 .left) (sym (c .before .readable .ensures) ∙ not-true (c .before .readable .result) (c .if2 .taken))
+returns c = let start = c .before .before in short (start .args .v) (start .args .out .now) (c .if1 .taken)
 
 bytes-of-requires : tie.Need-bytes-of-requires
 bytes-of-requires c κs = search needs
+
+readable-requires : tie.Need-readable-requires
+readable-requires c κs = c .bytes-of .ensures
+
+returns-2 : tie.Need-returns-2
+returns-2 c =
+    let test = c .before in
+    let long = test .before .before in
+    let start = long .before .before in
+    unread (start .args .v) (start .args .out .now) (long .if1 .left)
+    (sym (test .readable .ensures) ∙ not-true (test .readable .result) (c .if2 .taken))
 
 store-requires : tie.Need-store-requires
 store-requires c κs = search needs
@@ -25,16 +30,25 @@ same-length : tie.Need-same-length
 same-length c = search needs
 
 returns-3 : tie.Need-returns-3
-returns-3 c = written (c .before .before .before .before .before .before .before .before .before .args .v) (c .before .before .before .before .before .before .before .before .before .args .out .now) _ _ (c .before .before .before .before .before .before .before .if1 .left) (sym (c .before .before .before .before .before .before .readable .ensures) ∙ not-false (c .before .before .before .before .before .before .readable .result) (c .before .before .before .before .before .if2 .left)) (c .before .before .store .ensures) (c .before .before .before .bytes-of .ensures)
+returns-3 c =
+    let stored = c .before .before in
+    let good = stored .before .before in
+    let test = good .before in
+    let long = test .before .before in
+    let start = long .before .before in
+    written (start .args .v) (start .args .out .now) _ _ (long .if1 .left)
+    (sym (test .readable .ensures) ∙ not-false (test .readable .result) (good .if2 .left))
+    (stored .store .ensures)
+    (test .before .bytes-of .ensures)
 
 pub write-spec : {M : Type 1} → statement M
 write-spec =
     tie.close
     (tie.spec
     returns
+    bytes-of-requires
     readable-requires
     returns-2
-    bytes-of-requires
     store-requires
     same-length
     returns-3)

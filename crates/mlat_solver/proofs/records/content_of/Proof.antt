@@ -31,7 +31,7 @@ returns : tie.Need-returns
 unfolding contentOf
 returns c =
     let args = c .before .before .args in
-    rw (c .fix-of .ensures, c .before .altitude-of .ensures, toZ-ofZ w64 (args .transmit-ps) (c .before .before .fits .transmit-ps))
+    rw (c .fix-of .ensures, c .before .altitude-of .ensures, toZ-ofZ w64 (args .time) (c .before .before .fits .time))
 
 pub content-of-spec : {M : Type 1} → statement M
 content-of-spec =

@@ -71,7 +71,7 @@ array-read-t20-6 c = search needs
 
 returns : tie.Need-returns
 unfolding fixOf
-returns c = rw (c .dof-of .ensures, toZ-ofZ w64 (c .before .args .transmit-ps) (c .before .fits .transmit-ps))
+returns c = rw (c .dof-of .ensures, toZ-ofZ w64 (c .before .args .time) (c .before .fits .time))
 
 pub fix-of-spec : {M : Type 1} → statement M
 fix-of-spec =

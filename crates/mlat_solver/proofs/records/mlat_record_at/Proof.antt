@@ -1,4 +1,5 @@
--- `mlat_solver::records::mlat_record_at` meets its contract: a place that is not refused has its record within the file (`within-file`). Assumes nothing.
+-- `mlat_solver::records::mlat_record_at` meets its contract: a place that is not refused has its record in the file (`within-file`).
+-- Assumes nothing.
 use borrow.Author.Needs.{needs}
 use Prim.Native.Nat.{_+_, _*_, _≤_}
 use mathlib.Core.Path.{sym, _∙_}

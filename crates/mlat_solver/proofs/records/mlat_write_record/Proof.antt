@@ -36,7 +36,7 @@ returns-3 c =
     let args = test .before .before .before .before .before .args in
     handed-on _ _ _ _ _ _ _ (test .before .before .before .if1 .left)
     (sym (test .whole .ensures) ∙ not-false (test .whole .result) (sound .if2 .left))
-    (rw (toZ-ofZ w64 (args .transmit-ps) (test .before .before .before .before .before .fits .transmit-ps)) at (made .content-of .ensures))
+    (rw (toZ-ofZ w64 (args .time) (test .before .before .before .before .before .fits .time)) at (made .content-of .ensures))
     (c .before .before .write .ensures)
 
 pub mlat-write-record-spec : {M : Type 1} → statement M

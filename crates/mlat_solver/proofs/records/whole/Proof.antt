@@ -33,11 +33,18 @@ returns-2 c = let v = c .before .before .before in rw (← v .version-of .ensure
 
 returns-3 : tie.Need-returns-3
 unfolding whole
-returns-3 c = let v = c .before .before .before .before in rw (← v .version-of .ensures, eq-eqb _ _ (c .before .before .if1 .left), le-leb _ _ (c .before .if2 .left), ne-eqb _ _ (c .if3 .taken))
+returns-3 c =
+    let version = c .before .before in
+    let kind = c .before .if2 .left in
+    rw (← version .before .before .version-of .ensures, eq-eqb _ _ (version .if1 .left), le-leb _ _ kind, ne-eqb _ _ (c .if3 .taken))
 
 returns-4 : tie.Need-returns-4
 unfolding whole
-returns-4 c = let v = c .before .before .before .before in rw (← v .version-of .ensures, eq-eqb _ _ (c .before .before .if1 .left), le-leb _ _ (c .before .if2 .left), eq-eqb _ _ (c .if3 .left), c .before .before .before .to-bits .ensures)
+returns-4 c =
+    let version = c .before .before in
+    let kind = c .before .if2 .left in
+    let metres = version .before .to-bits .ensures in
+    rw (← version .before .before .version-of .ensures, eq-eqb _ _ (version .if1 .left), le-leb _ _ kind, eq-eqb _ _ (c .if3 .left), metres)
 
 pub whole-spec : {M : Type 1} → statement M
 whole-spec =

@@ -37,13 +37,19 @@ three-at-requires-2 : tie.Need-three-at-requires-2
 three-at-requires-2 c κs = (omega arith, high-three _ (c .before .before .before .before .before .before .before .before .before .pre .1) 0 (lit≤ tt))
 
 three-at-requires-3 : tie.Need-three-at-requires-3
-three-at-requires-3 c κs = (omega arith, high-three _ (c .before .before .before .before .before .before .before .before .before .before .pre .1) 3 (lit≤ tt))
+three-at-requires-3 c κs =
+    let three = c .before .before .before .before .before .before in
+    (omega arith, high-three _ (three .before .before .before .before .pre .1) 3 (lit≤ tt))
 
 three-at-requires-4 : tie.Need-three-at-requires-4
-three-at-requires-4 c κs = (omega arith, high-three _ (c .before .before .before .before .before .before .before .before .before .before .before .pre .1) 6 (lit≤ tt))
+three-at-requires-4 c κs =
+    let three = c .before .before .before .before .before .before .before in
+    (omega arith, high-three _ (three .before .before .before .before .pre .1) 6 (lit≤ tt))
 
 number-at-requires-5 : tie.Need-number-at-requires-5
-number-at-requires-5 c κs = (omega arith, high-finite _ (c .before .before .before .before .before .before .before .before .before .before .before .before .pre .1) 9 (lit< tt))
+number-at-requires-5 c κs =
+    let three = c .before .before .before .before .before .before .before .before in
+    (omega arith, high-finite _ (three .before .before .before .before .pre .1) 9 (lit< tt))
 
 returns : tie.Need-returns
 returns c =

@@ -5,7 +5,7 @@ use Prim.Native.Nat.{_≤_, _-_}
 use mathlib.Core.Path.{_≡_, refl}
 use native.Mathlib.Omega.{arith}
 use native.Mathlib.Numerals.{add-one}
-use Rattle.reader.specs.Rules.{finite}
+use Rattle.reader.specs.Tests.{finite}
 use Rattle.reader.proofs.rules.finite.Statement.{statement}
 use Rattle.reader.proofs.rules.finite.Tie as tie
 
@@ -42,7 +42,10 @@ loop-less c = search needs
 
 loop-again : tie.Need-loop-again Inv-loop μ-loop
 unfolding finite f64At
-loop-again c = (omega arith, rw (add-one, ← c .before .before .before .before .loop .inv .1, ← c .before .before .u64-at .ensures, ← c .before .finite-bits .ensures) (c .both .ensures))
+loop-again c =
+    let turn = c .before .before in
+    let inv = turn .before .before .loop .inv .1 in
+    (omega arith, rw (add-one, ← inv, ← turn .u64-at .ensures, ← c .before .finite-bits .ensures) (c .both .ensures))
 
 returns : tie.Need-returns Inv-loop μ-loop
 returns c = let e : c .before .loop .i ≡ c .before .before .before .args .count = omega arith in rw e at (c .before .loop .inv .1)

@@ -1,7 +1,7 @@
 -- `reader::rules::good_detail` meets its contract. Each return is a case of the definition. Assumes nothing.
 use borrow.Author.Needs.{needs}
 use borrow.Author.Tests.{eq-eqb, ne-eqb}
-use Rattle.reader.specs.Rules.{goodDetail}
+use Rattle.reader.specs.Tests.{goodDetail}
 use Rattle.reader.proofs.rules.good_detail.Statement.{statement}
 use Rattle.reader.proofs.rules.good_detail.Tie as tie
 
@@ -27,7 +27,11 @@ either-requires-2 c κs = search needs
 
 returns-3 : tie.Need-returns-3
 unfolding goodDetail
-returns-3 c = rw (ne-eqb _ _ (c .before .before .before .before .before .if1 .left), ne-eqb _ _ (c .before .before .before .before .if2 .left), eq-eqb _ _ (c .before .before .before .if3 .taken)) (rw (c .either2 .ensures, c .before .either .ensures, c .before .before .between2 .ensures))
+returns-3 c =
+    let third = c .before .before .before in
+    let second = third .before in
+    rw (ne-eqb _ _ (second .before .if1 .left), ne-eqb _ _ (second .if2 .left), eq-eqb _ _ (third .if3 .taken))
+    (rw (c .either2 .ensures, c .before .either .ensures, c .before .before .between2 .ensures))
 
 returns-4 : tie.Need-returns-4
 unfolding goodDetail

@@ -1,7 +1,7 @@
 -- `reader::rules::good_dof` meets its contract. Either return is a case of the definition. Assumes nothing.
 use borrow.Author.Needs.{needs}
 use borrow.Author.Tests.{eq-eqb, ne-eqb}
-use Rattle.reader.specs.Rules.{goodDof}
+use Rattle.reader.specs.Tests.{goodDof}
 use Rattle.reader.proofs.rules.good_dof.Statement.{statement}
 use Rattle.reader.proofs.rules.good_dof.Tie as tie
 

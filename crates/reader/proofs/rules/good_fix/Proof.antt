@@ -1,4 +1,4 @@
--- `reader::rules::good_fix` meets its contract. The rules' answers make the definition's (`fix-rules`). Assumes nothing.
+-- `reader::rules::good_fix` meets its contract. The answers to the single rules make the answer (`fix-rules`). Assumes nothing.
 use borrow.Author.Needs.{needs}
 use native.Mathlib.Omega.{arith}
 use Rattle.reader.proofs.Assembled.{many, fix-rules}
@@ -58,16 +58,20 @@ both-requires-6 c κs = search needs
 
 returns-2 : tie.Need-returns-2
 returns-2 c =
-    fix-rules (c .before .before .before .before .before .before .before .before .before .before .before .before .before .before .before .before .before .before .args .s .now)
-    (c .before .before .before .before .before .before .before .before .before .before .before .before .before .before .before .before .u32-at .ensures)
-    (c .before .before .before .before .before .before .before .before .before .before .before .before .before .before .before .if1 .left)
-    (c .before .before .before .before .before .before .before .before .before .before .before .before .before .before .u32-at2 .ensures)
-    (c .before .before .before .before .before .before .before .before .before .before .before .before .before .u32-at3 .ensures)
-    (c .before .before .before .before .before .before .before .before .before .before .before .before .u16-at .ensures)
-    (c .before .before .before .before .before .before .before .before .before .before .zeros .ensures)
-    (c .before .before .before .before .before .before .before .before .before .good-metres .ensures)
-    (c .before .before .before .before .before .before .before .before .both .ensures)
-    (c .before .before .before .before .before .before .before .good-mask .ensures)
+    let mask = c .before .before .before .before .before .before .before in
+    let zero = mask .before .before .before in
+    let detail = zero .before .before .before .before in
+    let few = detail .before in
+    fix-rules (few .before .before .before .args .s .now)
+    (few .before .u32-at .ensures)
+    (few .if1 .left)
+    (detail .u32-at2 .ensures)
+    (zero .before .before .before .u32-at3 .ensures)
+    (zero .before .before .u16-at .ensures)
+    (zero .zeros .ensures)
+    (mask .before .before .good-metres .ensures)
+    (mask .before .both .ensures)
+    (mask .good-mask .ensures)
     (c .before .before .before .before .before .before .good-dof .ensures)
     (c .before .before .before .before .before .both2 .ensures)
     (c .before .before .before .before .both3 .ensures)

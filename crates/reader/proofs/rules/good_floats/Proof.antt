@@ -1,6 +1,6 @@
 -- `reader::rules::good_floats` meets its contract. By the definition. Assumes nothing.
 use borrow.Author.Needs.{needs}
-use Rattle.reader.specs.Rules.{goodFloats}
+use Rattle.reader.specs.Tests.{goodFloats}
 use Rattle.reader.proofs.rules.good_floats.Statement.{statement}
 use Rattle.reader.proofs.rules.good_floats.Tie as tie
 
@@ -21,7 +21,10 @@ both-requires-2 c κs = search needs
 
 returns : tie.Need-returns
 unfolding goodFloats
-returns c = rw (c .both2 .ensures, c .before .both .ensures, c .before .before .before .before .finite .ensures, c .before .before .before .finite2 .ensures, c .before .before .finite3 .ensures)
+returns c =
+    let third = c .before .before in
+    let second = third .before in
+    rw (c .both2 .ensures, c .before .both .ensures, second .before .finite .ensures, second .finite2 .ensures, third .finite3 .ensures)
 
 pub good-floats-spec : {M : Type 1} → statement M
 good-floats-spec =

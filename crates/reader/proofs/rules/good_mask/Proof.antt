@@ -4,7 +4,7 @@ use Prim.Native.Nat.{_^_, _*_, _%_, _<_}
 use mathlib.Core.Path.{_≡_}
 use native.Mathlib.Omega.{arith}
 use lib.Pow.{pow-lt}
-use Rattle.reader.specs.Rules.{goodMask}
+use Rattle.reader.specs.Tests.{goodMask}
 use Rattle.reader.proofs.rules.good_mask.Statement.{statement}
 use Rattle.reader.proofs.rules.good_mask.Tie as tie
 

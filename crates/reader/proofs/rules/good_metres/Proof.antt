@@ -1,6 +1,6 @@
 -- `reader::rules::good_metres` meets its contract. By the definition. Assumes nothing.
 use borrow.Author.Needs.{needs}
-use Rattle.reader.specs.Rules.{goodMetres}
+use Rattle.reader.specs.Tests.{goodMetres}
 use Rattle.reader.proofs.rules.good_metres.Statement.{statement}
 use Rattle.reader.proofs.rules.good_metres.Tie as tie
 

@@ -1,7 +1,7 @@
 -- `reader::rules::good_n` meets its contract. Either return is a case of the definition. Assumes nothing.
 use borrow.Author.Needs.{needs}
 use borrow.Author.Tests.{le-leb, lt-leb}
-use Rattle.reader.specs.Rules.{goodN}
+use Rattle.reader.specs.Tests.{goodN}
 use Rattle.reader.proofs.rules.good_n.Statement.{statement}
 use Rattle.reader.proofs.rules.good_n.Tie as tie
 

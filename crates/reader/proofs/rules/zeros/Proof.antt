@@ -4,7 +4,7 @@ use Prim.Native.Nat.{_≤_, _-_}
 use mathlib.Core.Path.{_≡_, refl}
 use native.Mathlib.Omega.{arith}
 use native.Mathlib.Numerals.{add-one}
-use Rattle.reader.specs.Rules.{zeros}
+use Rattle.reader.specs.Tests.{zeros}
 use Rattle.reader.proofs.rules.zeros.Statement.{statement}
 use Rattle.reader.proofs.rules.zeros.Tie as tie
 
