@@ -1,5 +1,5 @@
 -- A fix that is written is read back: every field, from the record's table (`reads`). Assumes nothing.
-use Prim.Native.Nat.{ℕ, suc, _+_, _%_, _^_, _<_, _≤_}
+use Prim.Native.Nat.{ℕ, _+_, _%_, _^_, _<_, _≤_}
 use mathlib.Core.Path.{_≡_, refl, sym, ap, _∙_}
 use mathlib.Core.List.{List, [], _∷_, _++_}
 use native.Mathlib.Omega.{arith}
@@ -13,13 +13,13 @@ use mir.Val.{toZ, ofZ, SFits}
 use mir.ValLaws.{toZ-ofZ, ofZ-fits}
 use Rattle.binary64.specs.Steps.{#}
 use Rattle.dense.specs.Entries.{nth}
-use Rattle.words.specs.Words.{wordAt, putWord, u16At, u32At, u64At, i64At, f64At, putU16, putU32, putU64, putI64, putF64}
+use Rattle.words.specs.Words.{wordAt, putWord, u32At, u64At, i64At, f64At, putU16, putU32, putU64, putI64, putF64}
 use Rattle.problem.specs.declared.Altitude.{Altitude}
 use Rattle.problem.specs.declared.Altitude.the-variants.{None, Barometric, Gnss}
 use Rattle.record.specs.declared.content.Fix.{Fix}
 use Rattle.record.specs.Record.{written, foot, blank, kind, metres, fix}
 use Rattle.reader.specs.declared.content.Content.{Content}
-use Rattle.reader.specs.Read.{threeAt, altitudeOf, fixAt, fixed}
+use Rattle.reader.specs.Read.{threeAt, altitudeOf, fixed}
 use Rattle.reader.specs.Meaning.{HeldThree, HeldFix}
 use Rattle.reader.proofs.Assembled.{fix-fields, content-fields}
 use Rattle.reader.proofs.Table.{Word, word, putAll, Apart, done, next, Reads, reads, first-read, rest-read}

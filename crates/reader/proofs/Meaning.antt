@@ -1,23 +1,22 @@
 -- What reading and writing come to: each statement of specs/Meaning.antt but `TestsAreRules`. Assumes nothing.
 use Prim.Native.Nat.{ℕ, _+_, _*_, _/_, _%_, _<_, _≤_}
-use mathlib.Core.Path.{_≡_, refl, sym, ap, subst, _∙_}
+use mathlib.Core.Path.{_≡_, refl, sym, ap, _∙_}
 use mathlib.Core.Bool.{Bool, true, false, cond, false≢true}
-use mathlib.Core.List.{List, _++_}
+use mathlib.Core.List.{List}
 use native.Mathlib.Omega.{arith}
 use lib.Dec.{eqb, ltb}
-use lib.ListN.{length, take, drop, length-drop}
+use lib.ListN.{length, drop, length-drop}
 use lib.Seq.{length-take-le, getD-take, getD-drop, take-at}
-use borrow.Author.Tests.{eq-eqb, ne-eqb, eqb-true, lt-ltb, le-ltb, ltb-false}
-use Rattle.refusals.specs.Refusals.{malformedRecord}
+use borrow.Author.Tests.{eq-eqb, ne-eqb, eqb-true, le-ltb}
 use Rattle.record.specs.Record.{stored}
 use Rattle.reader.specs.declared.content.Content.{Content}
 use Rattle.reader.specs.declared.content.Reading.{Reading}
 use Rattle.reader.specs.Tests.{meetsRules}
-use Rattle.reader.specs.Read.{placeRefusal, recordAt, readOf, contentAt, bytesOf, readable, turnedAway, writeAnswer, writeOutput}
-use Rattle.reader.specs.Meaning.{Bytes, given, Held, PlacesOfRecords, OwnBytes, TakesApartExactly, TurnsAwayOthers}
+use Rattle.reader.specs.Read.{placeRefusal, readOf, contentAt, bytesOf, readable, turnedAway, writeAnswer, writeOutput}
+use Rattle.reader.specs.Meaning.{given, Held, PlacesOfRecords, OwnBytes, TakesApartExactly, TurnsAwayOthers}
 use Rattle.reader.specs.Meaning.{WritesWhatWasRead, ReadsWhatWasWritten, RefusesWhatNoReadGives}
 use Rattle.reader.proofs.Paragraph.{tests-are-rules}
-use Rattle.reader.proofs.Places.{within-file, there}
+use Rattle.reader.proofs.Places.{torn-file, no-such-place, placed, within-file, there}
 use Rattle.reader.proofs.Round.{again}
 use Rattle.reader.proofs.Nothing.{read-readable}
 use Rattle.reader.proofs.Value.{value-back, bytes-sized, bytes-bytes}
@@ -26,17 +25,16 @@ use Rattle.reader.proofs.Writing.{written}
 -- ---- the record at a place
 
 pub places-of-records : PlacesOfRecords
-unfolding placeRefusal
 places-of-records size place = (whole, torn)
   where
     whole : (m : ℕ) → size ≡ 176 * m → (place < m → placeRefusal size place ≡ 0) × (m ≤ place → placeRefusal size place ≡ 17)
     whole m e =
         let r : size % 176 ≡ 0 = omega arith in
         let q : size / 176 ≡ m = omega arith in
-        (λ l. rw (r, q, lt-ltb place m l), λ l. rw (r, q, le-ltb place m l))
+        (λ l. sym (placed size place r (omega arith)), λ l. sym (no-such-place size place r (omega arith)))
 
     torn : ((m : ℕ) → size ≡ 176 * m → ⊥) → placeRefusal size place ≡ 16
-    torn n = rw (ne-eqb (size % 176) 0 (λ z. n (size / 176) (omega arith)))
+    torn n = sym (torn-file size place (λ z. n (size / 176) (omega arith)))
 
 pub own-bytes : OwnBytes
 own-bytes file place e =

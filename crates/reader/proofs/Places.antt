@@ -1,4 +1,4 @@
--- A place that is not refused: its record lies within the file. Assumes nothing.
+-- Why a place is refused, and that a record at one that is not lies within the file. Assumes nothing.
 use Prim.Native.Nat.{ℕ, _+_, _*_, _/_, _%_, _<_, _≤_}
 use mathlib.Core.Path.{_≡_, refl, sym, _∙_}
 use mathlib.Core.Bool.{Bool, true, false, cond}
@@ -6,8 +6,26 @@ use mathlib.Core.List.{List, []}
 use native.Mathlib.Omega.{arith}
 use lib.Dec.{ltb, eqb}
 use lib.ListN.{length, take, drop}
-use borrow.Author.Tests.{ltb-true, eqb-true, eq-eqb, ne-eqb}
+use borrow.Author.Tests.{ltb-true, eqb-true, eq-eqb, ne-eqb, lt-ltb, le-ltb}
+use Rattle.refusals.specs.Refusals.{tornFile, noSuchPlace}
 use Rattle.reader.specs.Read.{placeRefusal, recordAt}
+
+-- ---- the three ends
+
+module _ (size place : ℕ) where
+  pub torn-file : (size % 176 ≡ 0 → ⊥) → tornFile ≡ placeRefusal size place
+  unfolding placeRefusal
+  torn-file n = rw (ne-eqb (size % 176) 0 n)
+
+  pub no-such-place : size % 176 ≡ 0 → size / 176 ≤ place → noSuchPlace ≡ placeRefusal size place
+  unfolding placeRefusal
+  no-such-place e h = rw (e, le-ltb place (size / 176) h)
+
+  pub placed : size % 176 ≡ 0 → place < size / 176 → 0 ≡ placeRefusal size place
+  unfolding placeRefusal
+  placed e h = rw (e, lt-ltb place (size / 176) h)
+
+-- ---- a record within the file
 
 tests : (a b : Bool) → _≡_ {A = ℕ} (cond a (cond b 0 17) 16) 0 → (a ≡ true) × (b ≡ true)
 tests true true e = (refl, refl)

@@ -1,19 +1,16 @@
 -- Writing a record that was read gives its bytes again. Assumes nothing.
-use Prim.Native.Nat.{ℕ, zero, suc, _+_, _*_, _<_, _≤_}
+use Prim.Native.Nat.{ℕ, zero, suc, _+_, _<_, _≤_}
 use mathlib.Core.Path.{_≡_, refl, sym, ap, _∙_}
-use mathlib.Core.Bool.{Bool, true, false, cond, not, _&&_, _||_, false≢true}
-use mathlib.Core.Logic.{_⊎_, inl, inr, ⊎-elim}
-use mathlib.Core.List.{List, [], _∷_, _++_, append-nil}
+use mathlib.Core.Bool.{Bool, true, false, cond}
+use mathlib.Core.List.{List, append-nil}
 use native.Mathlib.Omega.{arith}
 use lib.Dec.{leb, eqb, lit<}
-use lib.ListN.{length, take, drop, getD, set, length-replicate, getD-replicate, drop-of-length-le}
+use lib.ListN.{length, getD, set, length-replicate, getD-replicate}
 use lib.Seq.{take-all}
 use lib.Ieee.{Float}
 use borrow.Author.Tests.{eqb-true, leb-true}
 use Rattle.binary64.specs.Steps.{nought, isFinite}
-use Rattle.sets.proofs.Tests.{lt-suc-cases}
-use Rattle.words.specs.Words.{wordAt, u16At, u32At, u64At, f64At, putU16, putU32, putF64}
-use Rattle.problem.specs.declared.Altitude.the-variants.{None, Barometric, Gnss}
+use Rattle.words.specs.Words.{wordAt, u16At, u32At, u64At, f64At, putU32, putF64}
 use Rattle.record.specs.Record.{putThree, written, head, foot, kind, metres, blank, fix, refusal}
 use Rattle.record.proofs.Parts.{parts}
 use Rattle.reader.specs.Rules.{answerAt, detailAt, nAt, maskAt, versionAt, kindAt}

@@ -19,10 +19,10 @@ use Rattle.record.specs.Record.{blank, fix, refusal}
 use Rattle.reader.specs.declared.content.Content.{Content}
 use Rattle.reader.specs.Rules.{kindAt}
 use Rattle.reader.specs.Tests.{zeros, goodN, meetsRules}
-use Rattle.reader.specs.Read.{threeAt, altitudeOf, fixAt, noThree, noFix, fixed, refused, contentAt, bytesOf, alone, readable}
+use Rattle.reader.specs.Read.{threeAt, altitudeOf, fixAt, noThree, noFix, refused, contentAt, bytesOf, alone, readable}
 use Rattle.reader.specs.Meaning.{Bytes, Held}
 use Rattle.reader.proofs.Tests.{both-true, zeros-at}
-use Rattle.reader.proofs.Table.{Word, word, putAll, Apart, done, next, Reads, reads, first-read, rest-read}
+use Rattle.reader.proofs.Table.{Word, word, putAll, done, next, Reads, reads, first-read, rest-read}
 use Rattle.reader.proofs.Assembled.{fix-fields, content-fixed, content-refused}
 use Rattle.reader.proofs.Round.{n-shown}
 use Rattle.reader.proofs.Fixed.{table, fix-table, u32-back, answer-read, fix-read}

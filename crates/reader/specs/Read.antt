@@ -1,7 +1,7 @@
 -- Document 02, item 1: the record at a place of a file, what a record holds, and the bytes of what was read. Definitions
 -- only.
 use Prim.Native.Nat.{ℕ, _+_, _*_, _/_, _%_}
-use mathlib.Core.Bool.{Bool, not, cond, _&&_}
+use mathlib.Core.Bool.{Bool, cond, _&&_}
 use mathlib.Core.List.{List, [], _∷_}
 use lib.Dec.{ltb, eqb}
 use lib.ListN.{length, take, drop}
@@ -9,7 +9,7 @@ use lib.IntN.{pos}
 use lib.Ieee.{Float}
 use Rattle.binary64.specs.Steps.{nought}
 use Rattle.refusals.specs.Refusals.{shortOutput, tornFile, noSuchPlace, malformedRecord}
-use Rattle.words.specs.Words.{u32At, i64At, f64At}
+use Rattle.words.specs.Words.{i64At, f64At}
 use Rattle.problem.specs.declared.Altitude.{Altitude}
 use Rattle.problem.specs.declared.Altitude.the-variants.{None, Barometric, Gnss}
 use Rattle.record.specs.declared.content.Fix.{Fix}

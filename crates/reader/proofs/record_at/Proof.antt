@@ -1,9 +1,9 @@
 -- `reader::record_at` meets its contract. A place that is not refused has its record within the file (`within-file`). Assumes nothing.
 use borrow.Author.Needs.{needs}
-use Prim.Native.Nat.{_+_, _*_, _-_, _≤_}
-use mathlib.Core.Path.{_≡_, sym, _∙_}
+use Prim.Native.Nat.{ℕ, _+_, _*_, _-_, _≤_}
+use mathlib.Core.Path.{_≡_, sym, ap, _∙_}
 use native.Mathlib.Omega.{arith}
-use lib.ListN.{length}
+use lib.ListN.{length, take, drop}
 use Rattle.reader.proofs.Places.{within-file, refused, there}
 use Rattle.reader.proofs.record_at.Statement.{statement}
 use Rattle.reader.proofs.record_at.Tie as tie
@@ -55,7 +55,8 @@ returns-2 c =
     let place = c .before .before in
     let args = place .before .before .args in
     let e : 176 * args .place + 176 - 176 * args .place ≡ 176 = omega arith in
-    rw e (there (args .file .now) (args .place) (place .place-refusal .result) (place .place-refusal .ensures) (c .before .if1 .left))
+    ap (λ (n : ℕ). take n (drop (176 * args .place) (args .file .now))) e
+    ∙ there (args .file .now) (args .place) (place .place-refusal .result) (place .place-refusal .ensures) (c .before .if1 .left)
 
 pub record-at-spec : {M : Type 1} → statement M
 record-at-spec =

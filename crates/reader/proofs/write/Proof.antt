@@ -1,13 +1,14 @@
 -- `reader::write` meets its contract. Each return is an end of the definition (`Writing`). Assumes nothing.
 use borrow.Author.Needs.{needs}
 use mathlib.Core.Path.{sym, _∙_}
+use native.Mathlib.Omega.{arith}
 use borrow.Author.Tests.{not-true, not-false}
 use Rattle.reader.proofs.Writing.{short, unread, written}
 use Rattle.reader.proofs.write.Statement.{statement}
 use Rattle.reader.proofs.write.Tie as tie
 
 returns : tie.Need-returns
-returns c = let start = c .before .before in short (start .args .v) (start .args .out .now) (c .if1 .taken)
+returns c = let start = c .before .before in short (start .args .v) (start .args .out .now) (omega arith)
 
 bytes-of-requires : tie.Need-bytes-of-requires
 bytes-of-requires c κs = search needs

@@ -1,5 +1,4 @@
 -- `mlat_solver::records::dof_of` meets its contract. Either return is a case of the definition. Assumes nothing.
-use borrow.Author.Needs.{needs}
 use borrow.Author.Tests.{eq-eqb, ne-eqb}
 use Rattle.mlat_solver.proofs.records.dof_of.Statement.{statement}
 use Rattle.mlat_solver.proofs.records.dof_of.Tie as tie

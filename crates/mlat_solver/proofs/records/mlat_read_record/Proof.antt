@@ -1,6 +1,5 @@
 -- `mlat_solver::records::mlat_read_record` meets its contract: what `read` gives is laid out, or nothing is stored. Assumes nothing.
 use borrow.Author.Needs.{needs}
-use mathlib.Core.Path.{_∙_}
 use mir.Syntax.{w64}
 use mir.ValLaws.{toZ-ofZ}
 use Rattle.mlat_solver.proofs.Lending.{turned-away, taken-apart}

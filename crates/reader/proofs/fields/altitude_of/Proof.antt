@@ -1,5 +1,4 @@
 -- `reader::fields::altitude_of` meets its contract. Each return is a case of the definition. Assumes nothing.
-use borrow.Author.Needs.{needs}
 use borrow.Author.Tests.{eq-eqb, ne-eqb}
 use Rattle.reader.proofs.fields.altitude_of.Statement.{statement}
 use Rattle.reader.proofs.fields.altitude_of.Tie as tie

@@ -1,8 +1,7 @@
 -- `reader::fields::content_at` meets its contract: a refusal shows three numbers, a fix all fields of the table (`content-fields`). Assumes nothing.
 use borrow.Author.Needs.{needs}
 use native.Mathlib.Omega.{arith}
-use mathlib.Core.Path.{_≡_, sym, _∙_}
-use mathlib.Core.Bool.{true}
+use mathlib.Core.Path.{sym, _∙_}
 use Rattle.reader.proofs.Tests.{metres-finite, fix-meets}
 use Rattle.reader.proofs.Assembled.{content-fields, content-fixed, content-refused}
 use Rattle.reader.proofs.fields.content_at.Statement.{statement}

@@ -1,6 +1,5 @@
 -- `reader::rules::good_fix` meets its contract. The answers to the single rules make the answer (`fix-rules`). Assumes nothing.
 use borrow.Author.Needs.{needs}
-use native.Mathlib.Omega.{arith}
 use Rattle.reader.proofs.Assembled.{many, fix-rules}
 use Rattle.reader.proofs.rules.good_fix.Statement.{statement}
 use Rattle.reader.proofs.rules.good_fix.Tie as tie

@@ -1,5 +1,4 @@
 -- `reader::rules::good_n` meets its contract. Either return is a case of the definition. Assumes nothing.
-use borrow.Author.Needs.{needs}
 use borrow.Author.Tests.{le-leb, lt-leb}
 use Rattle.reader.specs.Tests.{goodN}
 use Rattle.reader.proofs.rules.good_n.Statement.{statement}
