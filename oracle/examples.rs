@@ -1,6 +1,6 @@
 //! examples OUT SOLVE: the example folders of the repository, each with its files and the original's record. Six stations about Lake Constance hear an aircraft that reports its
 //! barometric altitude; in the second folder one station is 2 km late; in the third only three stations hear it, and two places fit alike. The crate SOLVE gets what its program
-//! is run on: the files of the second folder without the reference, so that an absent file is tried too.
+//! is run on: the files of the second folder without the reference, so that an absent file is tried too. records.bin has the three records, one after the other.
 
 use oracle::geo::Geodetic;
 use oracle::random::Random;
@@ -58,6 +58,7 @@ fn main() {
         ("outlier", 0, scene(&STATIONS, aircraft, &[0.0, 0.0, 0.0, 2_000.0, 0.0, 0.0])),
         ("ambiguous", 8, scene(&STATIONS[..3], [46.90, 9.00, 11_310.0], &[0.0; 3])),
     ];
+    let mut records = Vec::new();
     for (name, wanted, scene) in &folders {
         let files = scene.files();
         let (answer, record) = record::record(&files);
@@ -65,9 +66,11 @@ fn main() {
         let folder = format!("{out}/{name}");
         write(&folder, &files);
         std::fs::write(format!("{folder}/record.bin"), record).expect("a file");
+        records.extend(record);
         let mask = u32::from_le_bytes([record[12], record[13], record[14], record[15]]);
         println!("{folder}: answer {answer}, used {mask:08x}");
     }
+    std::fs::write(format!("{out}/records.bin"), records).expect("a file");
     let files = Files { reference: None, ..folders[1].2.files() };
     write(&format!("{solve}/data"), &files);
     std::fs::write(format!("{solve}/stdout"), record::record(&files).1).expect("a file");
