@@ -1,4 +1,4 @@
-use crate::{Altitude, RECORD};
+use crate::Altitude;
 
 /// A solved position.
 #[derive(Clone, Copy, Debug, PartialEq)]
@@ -28,31 +28,5 @@ pub struct Fix {
 impl Fix {
     pub fn uses(&self, reception: usize) -> bool {
         reception < 32 && self.used >> reception & 1 == 1
-    }
-}
-
-pub(crate) fn read(record: &[u8; RECORD]) -> Fix {
-    let word = |at: usize| u32::from_le_bytes([record[at], record[at + 1], record[at + 2], record[at + 3]]);
-    let long = |at: usize| u64::from(word(at)) | u64::from(word(at + 4)) << 32;
-    let float = |at: usize| f64::from_bits(long(at));
-    let three = |at: usize| [float(at), float(at + 8), float(at + 16)];
-    Fix {
-        n: word(8),
-        used: word(12),
-        dof: word(4),
-        ecef_m: three(16),
-        t_m: float(40),
-        latitude_deg: float(48),
-        longitude_deg: float(56),
-        height_m: float(64),
-        transmit_ps: long(72) as i64,
-        covariance_m2: [three(80), three(104), three(128)],
-        chi2: float(152),
-        version: u16::from_le_bytes([record[160], record[161]]),
-        altitude: match record[162] {
-            1 => Some(Altitude::Barometric(float(168))),
-            2 => Some(Altitude::Gnss(float(168))),
-            _ => None,
-        },
     }
 }

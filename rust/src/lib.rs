@@ -13,12 +13,31 @@
 //! ```
 //!
 //! The solve keeps no state and allocates nothing: any number of calls may run side by side. What it answers is proved, for every input; this crate lends it the
-//! receptions and carries the other numbers to bytes and back.
+//! receptions and carries the other numbers to bytes. A file of fix records is read back by [`Records`] and [`read`]:
+//!
+//! ```no_run
+//! use jifrosk::{Record, Records, read};
+//!
+//! fn main() -> Result<(), Box<dyn std::error::Error>> {
+//!     let file = std::fs::read("fixes.bin")?;
+//!     for record in Records::new(&file)? {
+//!         match read(record)? {
+//!             Record::Fix(fix) => println!("{:.5} {:.5}", fix.latitude_deg, fix.longitude_deg),
+//!             Record::Refused { refusal, n } => println!("{n} receptions: {refusal}"),
+//!         }
+//!     }
+//!     Ok(())
+//! }
+//! ```
 
 mod fix;
+mod record;
+mod records;
 mod refusal;
 
 pub use fix::Fix;
+pub use record::{Record, read, write};
+pub use records::{Iter, Records};
 pub use refusal::{Field, Refusal};
 
 /// The length of a record.
@@ -104,22 +123,14 @@ fn lent(files: [Option<&[u8]>; 3]) -> (u32, [&[u8]; 3]) {
     (clock | altitude << 1 | reference << 2, files.map(|file| file.unwrap_or(&[])))
 }
 
-/// Where the aircraft was, or why that is not said.
+/// Where the aircraft was, or why that is not said. [`Refusal::MalformedRecord`] would say that a number of the fix is not
+/// finite; no problem is known that has such a fix.
 pub fn solve(problem: &Problem) -> Result<Fix, Refusal> {
     let clock: Option<Vec<u8>> = problem.clock_m2.map(|entries| entries.iter().flat_map(|entry| entry.to_le_bytes()).collect());
     let altitude = problem.altitude.map(altitude_bytes);
     let mut record = [0; RECORD];
     solve_receptions(problem.receptions, clock.as_deref(), altitude.as_ref().map(<[u8; 16]>::as_slice), Some(&problem.reference_ps.to_le_bytes()), &mut record);
-    read(&record)
-}
-
-/// A record, taken apart.
-pub fn read(record: &[u8; RECORD]) -> Result<Fix, Refusal> {
-    let word = |at: usize| u32::from_le_bytes([record[at], record[at + 1], record[at + 2], record[at + 3]]);
-    match word(0) {
-        0 => Ok(fix::read(record)),
-        number => Err(refusal::read(number, word(4))),
-    }
+    read(&record)?.fix()
 }
 
 fn altitude_bytes(altitude: Altitude) -> [u8; 16] {

@@ -1,6 +1,6 @@
 //! The recorded answers of the original: through the bytes, through a list of receptions, and through `Problem` where there is one.
 
-use jifrosk::{Altitude, Problem, RECORD, Reception, read, solve, solve_bytes, solve_receptions};
+use jifrosk::{Altitude, Problem, RECORD, Reception, Record, read, solve, solve_bytes, solve_receptions};
 use std::mem::{align_of, offset_of, size_of};
 
 const RECORDED: &str = concat!(env!("CARGO_MANIFEST_DIR"), "/../crates/replay/stdin");
@@ -106,7 +106,7 @@ fn problems_give_the_recorded_answer() {
             altitude: problem.there[2].then(|| if altitude[0] == 1 { Altitude::Barometric(metres()) } else { Altitude::Gnss(metres()) }),
             reference_ps: if problem.there[3] { long(reference, 0) as i64 } else { 0 },
         });
-        assert_eq!(found, read(&problem.record), "problem {k}");
+        assert_eq!(found, read(&problem.record).and_then(Record::fix), "problem {k}");
     }
 }
 

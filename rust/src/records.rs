@@ -1,0 +1,81 @@
+use crate::refusal::answered;
+use crate::{RECORD, Refusal};
+
+/// A file of fix records, lent: whole records one after the other.
+#[derive(Clone, Copy, Debug)]
+pub struct Records<'a> {
+    file: &'a [u8],
+}
+
+extern "C" {
+    fn mlat_record_at(file: *const u8, file_len: usize, place: u64, at: &mut u64) -> u32;
+}
+
+impl<'a> Records<'a> {
+    /// The records of a file; [`Refusal::TornFile`] where it is not whole records.
+    pub fn new(file: &'a [u8]) -> Result<Self, Refusal> {
+        match offset(file, 0) {
+            Err(Refusal::TornFile) => Err(Refusal::TornFile),
+            _ => Ok(Self { file }),
+        }
+    }
+
+    pub fn len(&self) -> usize {
+        self.file.len() / RECORD
+    }
+
+    pub fn is_empty(&self) -> bool {
+        self.file.is_empty()
+    }
+
+    /// The file's own bytes of the record at a place, from 0; [`Refusal::NoSuchPlace`] past the last.
+    pub fn get(&self, place: u64) -> Result<&'a [u8; RECORD], Refusal> {
+        let at = offset(self.file, place)? as usize;
+        Ok(self.file[at..].first_chunk().expect("a whole record stands at the offset"))
+    }
+
+    pub fn iter(&self) -> Iter<'a> {
+        Iter { records: *self, place: 0 }
+    }
+}
+
+/// Where the record at a place begins in the file.
+fn offset(file: &[u8], place: u64) -> Result<u64, Refusal> {
+    let mut at = 0;
+    // SAFETY: the file is lent with its length, and the call keeps none of what is lent.
+    answered(unsafe { mlat_record_at(file.as_ptr(), file.len(), place, &mut at) })?;
+    Ok(at)
+}
+
+/// The records of a file in turn, each its own bytes.
+#[derive(Clone, Debug)]
+pub struct Iter<'a> {
+    records: Records<'a>,
+    place: u64,
+}
+
+impl<'a> Iterator for Iter<'a> {
+    type Item = &'a [u8; RECORD];
+
+    fn next(&mut self) -> Option<Self::Item> {
+        let record = self.records.get(self.place).ok()?;
+        self.place += 1;
+        Some(record)
+    }
+
+    fn size_hint(&self) -> (usize, Option<usize>) {
+        let left = self.records.len() - self.place as usize;
+        (left, Some(left))
+    }
+}
+
+impl ExactSizeIterator for Iter<'_> {}
+
+impl<'a> IntoIterator for Records<'a> {
+    type Item = &'a [u8; RECORD];
+    type IntoIter = Iter<'a>;
+
+    fn into_iter(self) -> Iter<'a> {
+        self.iter()
+    }
+}
