@@ -2,3 +2,4 @@
 pub mod Edges
 pub mod Meaning
 pub mod Lending
+pub mod Returned

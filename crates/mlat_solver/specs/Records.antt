@@ -1,19 +1,23 @@
 -- Document 02, item 1, as C has it: what a record holds as six words, eighteen numbers and the transmit time. Definitions
--- only.
-use Prim.Native.Nat.{ℕ, _*_}
+-- and statements only: proofs/Returned.antt proves each.
+use Prim.Native.Nat.{ℕ, _*_, _^_, _<_, _≤_}
+use mathlib.Core.Path.{_≡_}
 use mathlib.Core.Bool.{Bool, not, cond, _&&_, _||_}
 use mathlib.Core.List.{List, [], _∷_}
-use lib.Dec.{leb, ltb, eqb}
+use lib.Dec.{T, leb, ltb, eqb}
 use lib.IntN.{ℤ}
-use lib.ListN.{length, getD}
-use lib.Ieee.{Float, binary64, toBits}
+use lib.ListN.{length, take, getD}
+use lib.Ieee.{Float, binary64, fits, toBits}
+use mir.Syntax.{w64}
+use mir.Val.{SFits}
 use Rattle.refusals.specs.Refusals.{shortOutput, malformedRecord}
 use Rattle.dense.specs.Entries.{nth}
 use Rattle.record.specs.declared.content.Fix.{Fix}
-use Rattle.record.specs.Record.{kind, metres}
+use Rattle.record.specs.Record.{kind, metres, stored}
 use Rattle.reader.specs.declared.content.Content.{Content}
 use Rattle.reader.specs.declared.content.Reading.{Reading}
-use Rattle.reader.specs.Read.{placeRefusal, altitudeOf, writeAnswer, writeOutput}
+use Rattle.reader.specs.Read.{placeRefusal, altitudeOf, readOf, writeAnswer, writeOutput}
+use Rattle.reader.specs.Meaning.{Bytes}
 
 -- where a record begins in the caller's file; as found where it is refused
 abbrev pub placedAt : ℕ → ℕ → ℕ → ℕ
@@ -101,3 +105,39 @@ recordAnswer words numbers time out =
 
 unfoldable pub recordOutput : List ℕ → List Float → ℤ → List ℕ → List ℕ
 recordOutput words numbers time out = cond (whole words numbers) (writeOutput (contentOf words numbers time) out) out
+
+-- ---- what the calls come to
+
+-- what the types of the lent memory say
+pub record Lends (words : List ℕ) (numbers : List Float) (time : ℤ) : Type 0 where
+  pub six : length words ≡ 6
+  pub small : (i : ℕ) → word words i < 2 ^ 32
+  pub eighteen : length numbers ≡ 18
+  pub floats : (i : ℕ) → i < 18 → T (fits binary64 (nth numbers i))
+  pub signed : SFits w64 time
+
+-- these words and numbers, and this time, are what is read from s
+pub record ReadFrom (s words : List ℕ) (numbers : List Float) (time : ℤ) : Type 0 where
+  pub answered : readOf s .refusal ≡ 0
+  pub inWords : wordsOf (readOf s .content) ≡ words
+  pub inNumbers : numbersOf (readOf s .content) ≡ numbers
+  pub inTime : readOf s .content .fix .«transmit_ps» ≡ time
+
+-- "Writing a read record gives its bytes again"
+abbrev pub RecordsWrittenAgain : Type 0
+RecordsWrittenAgain =
+    (s out words : List ℕ) (numbers : List Float) (time : ℤ) → Bytes s → ReadFrom s words numbers time → 176 ≤ length out
+    → (recordAnswer words numbers time out ≡ 0) × (recordOutput words numbers time out ≡ stored out s)
+
+-- and what was written is read again
+abbrev pub RecordsReadAgain : Type 0
+RecordsReadAgain =
+    (words : List ℕ) (numbers : List Float) (time : ℤ) (out : List ℕ) → Lends words numbers time
+    → recordAnswer words numbers time out ≡ 0 → ReadFrom (take 176 (recordOutput words numbers time out)) words numbers time
+
+-- "any other value gets 18"
+abbrev pub RecordsRefused : Type 0
+RecordsRefused =
+    (words : List ℕ) (numbers : List Float) (time : ℤ) (out : List ℕ) → Lends words numbers time → 176 ≤ length out
+    → (recordAnswer words numbers time out ≡ malformedRecord → (s : List ℕ) → Bytes s → ReadFrom s words numbers time → ⊥)
+    × (((s : List ℕ) → Bytes s → ReadFrom s words numbers time → ⊥) → recordAnswer words numbers time out ≡ malformedRecord)

@@ -56,7 +56,7 @@ kind-lt None = lit< tt
 kind-lt (Barometric m) = lit< tt
 kind-lt (Gnss m) = lit< tt
 
-altitude-back : (alt : Altitude) → alt ≡ altitudeOf (kind alt) (metres alt)
+pub altitude-back : (alt : Altitude) → alt ≡ altitudeOf (kind alt) (metres alt)
 altitude-back None = refl
 altitude-back (Barometric m) = refl
 altitude-back (Gnss m) = refl

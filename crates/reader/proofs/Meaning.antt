@@ -54,13 +54,13 @@ first true true x y z p q e = (refl, refl)
 first true false x y z p q e = let n : _≡_ {A = ℕ} 0 18 = sym e ∙ p in absurd (omega arith)
 first false b x y z p q e = let n : _≡_ {A = ℕ} 0 16 = sym e ∙ q in absurd (omega arith)
 
-accepted : (s : List ℕ) → (readOf s .refusal ≡ 0) → (length s ≡ 176) × (meetsRules s ≡ true)
+pub accepted : (s : List ℕ) → (readOf s .refusal ≡ 0) → (length s ≡ 176) × (meetsRules s ≡ true)
 unfolding readOf
 accepted s e =
     let t = first (eqb (length s) 176) (meetsRules s) (given (contentAt s)) (turnedAway 18) (turnedAway 16) refl refl e in
     (eqb-true _ _ (t .0), t .1)
 
-taken-apart : (s : List ℕ) → length s ≡ 176 → meetsRules s ≡ true → readOf s ≡ given (contentAt s)
+pub taken-apart : (s : List ℕ) → length s ≡ 176 → meetsRules s ≡ true → readOf s ≡ given (contentAt s)
 unfolding readOf
 taken-apart s l m = rw (eq-eqb (length s) 176 l, m)
 

@@ -22,13 +22,13 @@ use Rattle.reader.proofs.Copied.{Bytes, upTo, copy-byte, skip-byte, cop
 
 -- ---- the altitude
 
-kind-back : (k : ℕ) (m : Float) → k ≤ 2 → kind (altitudeOf k m) ≡ k
+pub kind-back : (k : ℕ) (m : Float) → k ≤ 2 → kind (altitudeOf k m) ≡ k
 kind-back zero m h = refl
 kind-back (suc zero) m h = refl
 kind-back (suc (suc zero)) m h = refl
 kind-back (suc (suc (suc k))) m h = absurd (omega arith)
 
-metres-back : (k : ℕ) (m : Float) → k ≤ 2 → (k ≡ 0 → m ≡ nought) → metres (altitudeOf k m) ≡ m
+pub metres-back : (k : ℕ) (m : Float) → k ≤ 2 → (k ≡ 0 → m ≡ nought) → metres (altitudeOf k m) ≡ m
 metres-back zero m h z = sym (z refl)
 metres-back (suc zero) m h z = refl
 metres-back (suc (suc zero)) m h z = refl
