@@ -1,7 +1,7 @@
 -- The two choices of a round are the worst and the least of demand 3. Assumes nothing.
 use mathlib.Core.Logic.{_⊎_, inl, inr}
 use mathlib.Core.Option.{Option, none, some}
-use mathlib.Core.Bool.{Bool, not}
+use mathlib.Core.Bool.{Bool, not, _&&_}
 use Prim.Native.Nat.{ℕ, _<_}
 use lib.Dec.{T, T-not, not-T}
 use lib.Ieee.{Float, lt, le, isNan, ofBits}
@@ -15,7 +15,7 @@ use Rattle.rounds.specs.Rounds.{above, greater, worst, near, less, least
 use Rattle.rounds.specs.Demand.{Worst, NoneAbove, leftOut, Least}
 use Rattle.best.proofs.Order.{lt-split, lt-asym, lt-right, le-left, lt-trans, le-of-not-lt, lt-of-not-le, le-lt}
 
-five-number : T (not (isNan five))
+pub five-number : T (not (isNan five))
 unfolding ofBits isNan
 five-number = tt
 
@@ -29,6 +29,23 @@ of-above S z i t u = and-both (S i) (lt five (z i)) t u
 -- the first best of some candidates is that of fewer, where it is one of them
 first-of-fewer : (p q : Subset) (beats : ℕ → ℕ → Bool) (k i : ℕ) → ((j : ℕ) → T (q j) → T (p j)) → T (q i) → FirstBest p beats k i → FirstBest q beats k i
 first-of-fewer p q beats k i fewer c b = record { below = b .below; candidate = c; unbeaten = λ j l t. b .unbeaten j l (fewer j t); lowest = λ j l t. b .lowest j l (fewer j t) }
+
+-- ---- candidates are ranked by their residuals, which are numbers
+turned : {A B : Type 0} → A ⊎ B → B ⊎ A
+turned (inl a) = inr a
+turned (inr b) = inl b
+
+pub ranks-greater : (S : Subset) (z : ℕ → Float) → Ranks (above S z) (greater z)
+ranks-greater S z = record {
+  asym = λ i j h k. lt-asym (z j) (z i) h k;
+  split = λ i j k t h. turned (lt-split (z k) (z j) (z i) (lt-right five (z j) (above-of S z j t .1)) h);
+}
+
+pub ranks-less : (K S : Subset) (z : ℕ → Float) → Ranks (near K S z) (less z)
+ranks-less K S z = record {
+  asym = λ i j h k. lt-asym (z i) (z j) h k;
+  split = λ i j k t h. lt-split (z i) (z j) (z k) (le-left (z j) five (and-r (K j && not (S j)) (le (z j) five) t)) h;
+}
 
 module _ {Q F X : Type 0} (P : Setting Q F X) where
   pub below : (j : ℕ) → T (kept P j) → j < P .n
@@ -58,27 +75,11 @@ module _ {Q F X : Type 0} (P : Setting Q F X) where
   IsLeast S f o = IsChoice (near (kept P) S (P .residual f)) (less (P .residual f)) (P .n) o
 
   -- ---- the passes find the choices
-  turned : {A B : Type 0} → A ⊎ B → B ⊎ A
-  turned (inl a) = inr a
-  turned (inr b) = inl b
-
-  ranks-greater : (S : Subset) (z : ℕ → Float) → Ranks (above S z) (greater z)
-  ranks-greater S z = record {
-    asym = λ i j h k. lt-asym (z j) (z i) h k;
-    split = λ i j k t h. turned (lt-split (z k) (z j) (z i) (lt-right five (z j) (above-of S z j t .1)) h);
-  }
-
-  ranks-less : (S : Subset) (z : ℕ → Float) → Ranks (near (kept P) S z) (less z)
-  ranks-less S z = record {
-    asym = λ i j h k. lt-asym (z i) (z j) h k;
-    split = λ i j k t h. lt-split (z i) (z j) (z k) (le-left (z j) five (near-of S z j t .1)) h;
-  }
-
   pub worst-is : (S : Subset) (f : F) → IsWorst S f (worst S (P .residual f) (P .n))
   worst-is S f = choose-is (above S (P .residual f)) (greater (P .residual f)) (ranks-greater S (P .residual f)) (P .n)
 
   pub least-is : (S : Subset) (f : F) → IsLeast S f (least (kept P) S (P .residual f) (P .n))
-  least-is S f = choose-is (near (kept P) S (P .residual f)) (less (P .residual f)) (ranks-less S (P .residual f)) (P .n)
+  least-is S f = choose-is (near (kept P) S (P .residual f)) (less (P .residual f)) (ranks-less (kept P) S (P .residual f)) (P .n)
 
   -- ---- the choices, where every kept residual is a number
   module _ (S : Subset) (f : F) (W : Within S) (N : Numbers f) where

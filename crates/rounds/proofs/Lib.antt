@@ -7,6 +7,7 @@ pub mod Certainty
 pub mod Moments
 pub mod Finished
 pub mod Searches
+pub mod Looks
 pub mod Points
 pub mod Gathering
 pub mod Late

@@ -1,5 +1,6 @@
 pub mod Setting
 pub mod Finish
 pub mod Rounds
+pub mod Looked
 pub mod Solve
 pub mod Demand

@@ -1,21 +1,25 @@
 // The outlier rule: normalised residuals, and what they decide.
 ghost use mathlib.Core.Path.{_≡_};
 ghost use mathlib.Core.Bool.{cond, _&&_, _||_};
-ghost use Prim.Native.Nat.{ℕ, _≤_, _<_, _^_};
+ghost use Prim.Native.Nat.{ℕ, _+_, _≤_, _<_, _^_};
 ghost use lib.Dec.{leb};
 ghost use lib.ListN.{replicate};
+ghost use lib.Ieee.{Float, lt, le};
 ghost use Rattle.binary64.specs.Steps.{nought};
 ghost use Rattle.dense.specs.Entries.{nth};
 ghost use Rattle.sets.specs.Mask.{has};
-ghost use Rattle.sets.specs.Choice.{indexOf};
+ghost use Rattle.sets.specs.Sets.{Subset};
 ghost use Rattle.problem.specs.declared.Altitude.{Altitude};
 ghost use Rattle.whitening.specs.Whitened.{fillTo};
 ghost use Rattle.damped.specs.declared.Fit as fit;
 ghost use Rattle.best.specs.OfProblem.{receptions};
 ghost use Rattle.rounds.specs.declared.outliers.Turn.the-variants.{Changes};
-ghost use Rattle.rounds.specs.Rounds.{noNumber, unnumbered, above, greater, worst, near, less, least, decided};
+ghost use Rattle.rounds.specs.Setting.{five};
+ghost use Rattle.rounds.specs.Rounds.{noNumber, unnumbered, decided};
+ghost use Rattle.rounds.specs.Looked.{lookedTo};
 ghost use Rattle.rounds.specs.Solve.{normalised, stepOf};
 use crate::Refusal;
+use sets::NONE;
 
 // The threshold on a reception's normalised residual: of solve.rs.
 const OUTLIER_Z: f64 = 5.0;
@@ -88,88 +92,109 @@ fn unnumbered(kept: u32, z: &[f64; 32], n: usize) -> bool
     false
 }
 
-// Reception i where it is a candidate and better, and otherwise the one chosen so far.
-fn taken(candidate: bool, better: bool, i: usize, chosen: usize) -> usize
-    ensures { λ r. ⌜ r ≡ cond (candidate && better) i chosen ⌝ }
-{
-    if candidate {
-        if better {
-            return i;
-        }
-        return chosen;
-    }
-    chosen
+// A chosen reception and its residual: NONE and 0 where there is none.
+pub struct Choice {
+    pub at: usize,
+    pub z: f64,
 }
 
-// Whether reception i is included and above the threshold.
-fn above(included: u32, z: &[f64; 32], i: usize) -> bool
-    requires { ⌜ i < 32 ⌝ }
-    ensures { λ r. ⌜ r ≡ above (has included) (nth (now (z .entry))) i ⌝ }
-{
-    if sets::has(included, i) {
-        return z[i] > OUTLIER_Z;
-    }
-    false
+// Both choices among the receptions looked at: the worst included one above the threshold, and the least
+// left-out one not above it.
+pub struct Choices {
+    pub worst: Choice,
+    pub least: Choice,
 }
 
-// Whether reception i is greater than the worst so far, or there is none.
-fn greater(z: &[f64; 32], i: usize, worst: usize) -> bool
-    requires { ⌜ i < 32 ⌝ }
-    ensures { λ r. ⌜ r ≡ (leb 32 worst || greater (nth (now (z .entry))) i worst) ⌝ }
+// Nothing looked at.
+fn none_yet() -> Choices
+    ensures { λ r. ⌜ ((K S : Subset) (z : ℕ → Float) → r ≡ lookedTo K S z 0) ⌝ }
 {
-    if worst < sets::NONE {
-        return z[i] > z[worst];
+    let worst = Choice { at: NONE, z: 0.0 };
+    let least = Choice { at: NONE, z: 0.0 };
+    Choices { worst, least }
+}
+
+// Whether x is greater than the worst so far, or there is none.
+fn greater(x: f64, worst: Choice) -> bool
+    ensures { λ r. ⌜ r ≡ (leb 32 (worst .at) || lt (worst .z) x) ⌝ }
+{
+    if worst.at < NONE {
+        return x > worst.z;
     }
     true
 }
 
-// The worst included reception above the threshold, the lowest index on ties, or NONE.
-fn worst(included: u32, z: &[f64; 32], n: usize) -> usize
-    requires { ⌜ n ≤ 32 ⌝ }
-    ensures { λ r. ⌜ r ≡ indexOf (worst (has included) (nth (now (z .entry))) n) ⌝ }
+// The worst, one included reception further: i, with the residual x.
+fn worst_with(worst: Choice, i: usize, x: f64) -> Choice
+    ensures { λ r. ⌜ r ≡ cond (lt five x && (leb 32 (worst .at) || lt (worst .z) x))
+        (record { at = i; z = x }) worst ⌝ }
 {
-    let mut worst = sets::NONE;
-    for i in 0..n {
-        worst = taken(above(included, z, i), greater(z, i, worst), i, worst);
+    if x > OUTLIER_Z {
+        if greater(x, worst) {
+            return Choice { at: i, z: x };
+        }
+        return worst;
     }
     worst
 }
 
-// Whether reception i is kept but left out, and not above the threshold.
-fn near(kept: u32, included: u32, z: &[f64; 32], i: usize) -> bool
-    requires { ⌜ i < 32 ⌝ }
-    ensures { λ r. ⌜ r ≡ near (has kept) (has included) (nth (now (z .entry))) i ⌝ }
+// Whether x is less than the least so far, or there is none.
+fn less(x: f64, least: Choice) -> bool
+    ensures { λ r. ⌜ r ≡ (leb 32 (least .at) || lt x (least .z)) ⌝ }
 {
-    if sets::has(kept, i) {
-        if sets::has(included, i) {
-            return false;
-        }
-        return z[i] <= OUTLIER_Z;
-    }
-    false
-}
-
-// Whether reception i is less than the least so far, or there is none.
-fn less(z: &[f64; 32], i: usize, least: usize) -> bool
-    requires { ⌜ i < 32 ⌝ }
-    ensures { λ r. ⌜ r ≡ (leb 32 least || less (nth (now (z .entry))) i least) ⌝ }
-{
-    if least < sets::NONE {
-        return z[i] < z[least];
+    if least.at < NONE {
+        return x < least.z;
     }
     true
 }
 
-// The least left-out reception not above the threshold, the lowest index on ties, or NONE.
-fn least(kept: u32, included: u32, z: &[f64; 32], n: usize) -> usize
-    requires { ⌜ n ≤ 32 ⌝ }
-    ensures { λ r. ⌜ r ≡ indexOf (least (has kept) (has included) (nth (now (z .entry))) n) ⌝ }
+// The least, one left-out reception further: i, with the residual x.
+fn least_with(least: Choice, i: usize, x: f64) -> Choice
+    ensures { λ r. ⌜ r ≡ cond (le x five && (leb 32 (least .at) || lt x (least .z)))
+        (record { at = i; z = x }) least ⌝ }
 {
-    let mut least = sets::NONE;
-    for i in 0..n {
-        least = taken(near(kept, included, z, i), less(z, i, least), i, least);
+    if x <= OUTLIER_Z {
+        if less(x, least) {
+            return Choice { at: i, z: x };
+        }
+        return least;
     }
     least
+}
+
+// Both, one reception further: i, with the residual x.
+fn look(seen: Choices, kept: u32, included: u32, i: usize, x: f64) -> Choices
+    requires { ⌜ i < 32 ⌝ }
+    ensures { λ r. ⌜ ((z : ℕ → Float) → x ≡ z i → seen ≡ lookedTo (has kept) (has included) z i
+        → r ≡ lookedTo (has kept) (has included) z (i + 1)) ⌝ }
+{
+    let worst = seen.worst;
+    let least = seen.least;
+    if sets::has(included, i) {
+        return Choices {
+            worst: worst_with(worst, i, x),
+            least,
+        };
+    }
+    if sets::has(kept, i) {
+        return Choices {
+            worst,
+            least: least_with(least, i, x),
+        };
+    }
+    seen
+}
+
+// Both among the first k receptions, by one pass, in which each residual is read once.
+fn looked(kept: u32, included: u32, z: &[f64; 32], k: usize) -> Choices
+    requires { ⌜ k ≤ 32 ⌝ }
+    ensures { λ r. ⌜ r ≡ lookedTo (has kept) (has included) (nth (now (z .entry))) k ⌝ }
+{
+    let mut seen = none_yet();
+    for i in 0..k {
+        seen = look(seen, kept, included, i, z[i]);
+    }
+    seen
 }
 
 // What the residuals decide: 6 where one is not a number, then a removal, then a return.
@@ -180,12 +205,15 @@ pub fn decided(kept: u32, included: u32, z: &[f64; 32], n: usize) -> Turn
     if unnumbered(kept, z, n) {
         return Turn::Ends(Refusal::Singular);
     }
-    let out = worst(included, z, n);
-    if out < sets::NONE {
+    let chosen = looked(kept, included, z, n);
+    let worst = chosen.worst;
+    let least = chosen.least;
+    let out = worst.at;
+    if out < NONE {
         return Turn::Changes(sets::without(included, out));
     }
-    let back = least(kept, included, z, n);
-    if back < sets::NONE {
+    let back = least.at;
+    if back < NONE {
         return Turn::Changes(sets::joined(included, back));
     }
     Turn::Settles
