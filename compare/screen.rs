@@ -1,4 +1,6 @@
-//! The port's screen beside `screen` of solve.rs: the same receptions kept, on N sets of 0 to 32 receptions. Built and run by compare/screen.
+//! The port's screen beside `screen` of solve.rs: the same receptions kept, on N sets of 0 to 32 receptions. The turn
+//! of each removal and the clash count in that turn, which the Rust does not tell, are compared with a count of all
+//! failing pairs before each removal. Built and run by compare/screen.
 
 mod original {
     include!(env!("ORIGINAL"));
@@ -11,6 +13,13 @@ use std::time::Instant;
 
 extern "C" {
     fn screen_c(times: *const [i64; 32], sites: *const [i64; 96], n: usize) -> u32;
+    fn removals_c(
+        times: *const [i64; 32],
+        sites: *const [i64; 96],
+        n: usize,
+        turns: *mut [u32; 32],
+        clashes: *mut [u32; 32],
+    ) -> u32;
 }
 
 const LIGHT: i128 = 299_792_458;
@@ -19,7 +28,7 @@ const GIGA: i128 = 1_000_000_000;
 const LAST_TIME: i64 = 10_000_000_000_000;
 const FAR: i64 = 10_000_000_000;
 
-const KINDS: [&str; 8] = [
+const KINDS: [&str; 10] = [
     "sound",
     "with outliers",
     "gaps at the limit and 1 ps to either side",
@@ -28,6 +37,8 @@ const KINDS: [&str; 8] = [
     "over the whole domain",
     "in clusters of time",
     "at one site, gaps at the limit",
+    "on ladders of time at one site",
+    "in groups that fail with each other",
 ];
 
 impl Random {
@@ -71,6 +82,38 @@ impl Set {
     fn kept(&self) -> u32 {
         unsafe { screen_c(&self.times, &self.sites, self.n) }
     }
+    fn removals(&self) -> Removals {
+        let mut all = Removals { kept: 0, turns: [9; 32], clashes: [9; 32] };
+        all.kept = unsafe { removals_c(&self.times, &self.sites, self.n, &mut all.turns, &mut all.clashes) };
+        all
+    }
+}
+
+/// Those kept, and of each other reception the turn of its removal, from 1, and its clash count then; 0 without one.
+#[derive(PartialEq)]
+struct Removals {
+    kept: u32,
+    turns: [u32; 32],
+    clashes: [u32; 32],
+}
+
+/// "While a pair fails, the reception in most failing pairs goes, lowest index on ties", all pairs counted each time.
+fn recounted(set: &Set, failing: &[[bool; 32]; 32]) -> Removals {
+    let mut inside: Vec<usize> = (0..set.n).collect();
+    let mut all = Removals { kept: 0, turns: [0; 32], clashes: [0; 32] };
+    for turn in 1.. {
+        let count = |i: usize| inside.iter().filter(|j| failing[i][**j]).count();
+        let most = inside.iter().map(|i| count(*i)).max().unwrap_or(0);
+        if most == 0 {
+            break;
+        }
+        let goes = inside.iter().copied().find(|i| count(*i) == most).expect("one has most");
+        all.turns[goes] = turn;
+        all.clashes[goes] = most as u32;
+        inside.retain(|i| *i != goes);
+    }
+    all.kept = inside.iter().fold(0, |mask, i| mask | 1 << i);
+    all
 }
 
 /// By bisection, so that nothing here shares its way with either side.
@@ -128,6 +171,21 @@ fn made(random: &mut Random, kind: usize) -> Set {
             let clusters = 2 + random.below(4) as i64;
             for i in 0..set.n {
                 set.times[i] = 5_000_000_000_000 + random.between(0, clusters - 1) * 20_000_000_000 + random.between(0, 3_000_000_000);
+            }
+        }
+        8 => {
+            // one site allows 3,335,640 ps: each fails with those that are more rungs away
+            let step = random.between(200_000, 3_500_000);
+            let rungs = 1 + random.below(40) as i64;
+            for i in 0..set.n {
+                set.times[i] = 5_000_000_000_000 + step * random.between(0, rungs);
+            }
+        }
+        9 => {
+            // one group is left, whole
+            let groups = 1 + random.below(set.n as u64 + 1) as i64;
+            for i in 0..set.n {
+                set.times[i] = 5_000_000_000_000 + 10_000_000 * random.between(1, groups);
             }
         }
         5 => {
@@ -194,20 +252,25 @@ struct Tally {
     failing: u64,
 }
 
-/// How the pairs of a set lie: 1 ps below the limit, at it, and 1 ps above; in exact equality; failing.
-fn weigh(set: &Set, tally: &mut Tally) {
+/// Which pairs of a set fail, and into the tally how its pairs lie: 1 ps below the limit, at it, and 1 ps above; in
+/// exact equality; failing.
+fn weigh(set: &Set, tally: &mut Tally) -> [[bool; 32]; 32] {
+    let mut failing = [[false; 32]; 32];
     for i in 0..set.n {
         for j in 0..i {
             let gap = (set.times[i] - set.times[j]).abs();
-            let limit = set.limit(i, j);
+            let baseline = floor_root(set.squared(i, j));
+            let limit = ((baseline + MARGIN) * GIGA / LIGHT) as i64;
             if (gap - limit).abs() <= 1 {
                 tally.pairs[(gap - limit + 1) as usize] += 1;
             }
-            let baseline = floor_root(set.squared(i, j));
             tally.equal += (gap as i128 * LIGHT == (baseline + MARGIN) * GIGA) as u64;
             tally.failing += (gap > limit) as u64;
+            failing[i][j] = gap > limit;
+            failing[j][i] = gap > limit;
         }
     }
+    failing
 }
 
 fn compare(count: u64) -> u64 {
@@ -219,23 +282,20 @@ fn compare(count: u64) -> u64 {
         let set = made(&mut random, kind);
         let theirs = set.problem().screen().into_iter().fold(0u32, |mask, i| mask | 1 << i);
         let ours = set.kept();
-        if ours != theirs {
+        let tally = &mut tallies[kind];
+        let failing = weigh(&set, tally);
+        if ours != theirs || set.removals() != recounted(&set, &failing) {
             differences += 1;
             if differences <= 5 {
                 println!("{}: {} receptions: port {ours:08x}, Rust {theirs:08x}; times {:?}, sites {:?}", KINDS[kind], set.n, set.times, set.sites);
             }
         }
-        let tally = &mut tallies[kind];
         tally.sets += 1;
         let gone = set.n as u32 - theirs.count_ones();
         tally.screened += (gone > 0) as u64;
         tally.removed += gone as u64;
-        // the pairs are weighed in one set of sixteen: it takes longer than both screens
-        if k / KINDS.len() as u64 % 16 == 0 {
-            weigh(&set, tally);
-        }
     }
-    println!("{:>9} {:>9} {:>9}   {:>9} {:>9} {:>9} {:>9} {:>9}  of 1/16 of the sets", "", "", "", "pairs", "", "", "", "");
+    println!("{:>9} {:>9} {:>9}   {:>9} {:>9} {:>9} {:>9} {:>9}", "", "", "", "pairs", "", "", "", "");
     println!("{:>9} {:>9} {:>9}   {:>9} {:>9} {:>9} {:>9} {:>9}", "sets", "screened", "removed", "1 below", "at limit", "1 above", "equal", "failing");
     for (name, t) in KINDS.iter().zip(&tallies) {
         println!("{:>9} {:>9} {:>9}   {:>9} {:>9} {:>9} {:>9} {:>9}  {name}", t.sets, t.screened, t.removed, t.pairs[0], t.pairs[1], t.pairs[2], t.equal, t.failing);
@@ -244,7 +304,7 @@ fn compare(count: u64) -> u64 {
     differences
 }
 
-/// Nanoseconds a set, both sides on the same sets, the least of seven runs.
+/// Nanoseconds a set, both sides on the same sets, in turns, the least of 60 runs each.
 fn time(kind: usize, n: usize) {
     let mut random = Random(88_172_645_463_325_252);
     let mut sets = Vec::new();
@@ -256,24 +316,23 @@ fn time(kind: usize, n: usize) {
         }
     }
     let problems: Vec<Problem> = sets.iter().map(Set::problem).collect();
-    let least = |run: &dyn Fn() -> u32| {
-        (0..7)
-            .map(|_| {
-                let start = Instant::now();
-                std::hint::black_box(run());
-                start.elapsed().as_nanos() as f64 / sets.len() as f64
-            })
-            .fold(f64::INFINITY, f64::min)
+    let took = |run: &dyn Fn() -> u32| {
+        let start = Instant::now();
+        std::hint::black_box(run());
+        start.elapsed().as_nanos() as f64 / sets.len() as f64
     };
-    let ours = least(&|| sets.iter().fold(0, |sum, set| sum ^ set.kept()));
-    let theirs = least(&|| problems.iter().fold(0, |sum, p| sum ^ p.screen().len() as u32));
+    let (mut ours, mut theirs) = (f64::INFINITY, f64::INFINITY);
+    for _ in 0..60 {
+        ours = ours.min(took(&|| sets.iter().fold(0, |sum, set| sum ^ set.kept())));
+        theirs = theirs.min(took(&|| problems.iter().fold(0, |sum, p| sum ^ p.screen().len() as u32)));
+    }
     println!("n = {n:>2}, {}: port {ours:.0} ns, Rust {theirs:.0} ns, ratio {:.2}", KINDS[kind], ours / theirs);
 }
 
 fn main() {
     let count = std::env::args().nth(1).map_or(2_000_000, |n| n.parse().expect("N is a number"));
     let differences = compare(count);
-    for kind in [0, 1, 5] {
+    for kind in [0, 1, 5, 8] {
         for n in [4, 8, 16, 32] {
             time(kind, n);
         }

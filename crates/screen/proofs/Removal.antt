@@ -25,6 +25,17 @@ clashing n fails A i = A i && ltb 0 (clashes n fails A i)
 abbrev pub more : ℕ → (ℕ → ℕ → Bool) → Subset → ℕ → ℕ → Bool
 more n fails A i j = ltb (clashes n fails A j) (clashes n fails A i)
 
+-- the greater of two numbers ranks first
+pub ranked-by : (p : ℕ → Bool) (f : ℕ → ℕ) → Ranks p (λ (i j : ℕ). ltb (f j) (f i))
+ranked-by p f = record {
+  asym = λ i j h k. omega (arith, ltb→lt (f j) (f i) h, ltb→lt (f i) (f j) k);
+  split = λ i j k t h. go i j k (ltb→lt (f k) (f i) h) (either (ltb (f j) (f i)));
+}
+  where
+    go : (i j k : ℕ) → f k < f i → T (ltb (f j) (f i)) ⊎ T (not (ltb (f j) (f i))) → T (ltb (f j) (f i)) ⊎ T (ltb (f k) (f j))
+    go i j k h (inl t) = inl t
+    go i j k h (inr t) = inr (lt→ltb (f k) (f j) (omega (arith, nltb→le (f j) (f i) t)))
+
 module _ (n : ℕ) (fails : ℕ → ℕ → Bool) where
   abbrev pub Within : Subset → Type 0
   Within A = (j : ℕ) → T (A j) → j < n
@@ -32,7 +43,7 @@ module _ (n : ℕ) (fails : ℕ → ℕ → Bool) where
   abbrev clash-count : Subset → ℕ → ℕ
   clash-count A i = clashes n fails A i
 
-  abbrev Chosen : Subset → Option ℕ → Type 0
+  abbrev pub Chosen : Subset → Option ℕ → Type 0
   Chosen A o = IsChoice (clashing n fails A) (more n fails A) n o
 
   -- a clash count is above 0 where a pair fails, and nowhere else
@@ -51,20 +62,13 @@ module _ (n : ℕ) (fails : ℕ → ℕ → Bool) where
 
   -- ---- the one that goes
   ranked : (A : Subset) → Ranks (clashing n fails A) (more n fails A)
-  ranked A = record {
-    asym = λ i j h k. omega (arith, ltb→lt (clash-count A j) (clash-count A i) h, ltb→lt (clash-count A i) (clash-count A j) k);
-    split = λ i j k t h. go i j k (ltb→lt (clash-count A k) (clash-count A i) h) (either (ltb (clash-count A j) (clash-count A i)));
-  }
-    where
-      go : (i j k : ℕ) → clash-count A k < clash-count A i → T (more n fails A i j) ⊎ T (not (more n fails A i j)) → T (more n fails A i j) ⊎ T (more n fails A j k)
-      go i j k h (inl t) = inl t
-      go i j k h (inr t) = inr (lt→ltb (clash-count A k) (clash-count A j) (omega (arith, nltb→le (clash-count A j) (clash-count A i) t)))
+  ranked A = ranked-by (clashing n fails A) (clash-count A)
 
   module _ (A : Subset) (w : Within A) where
     candidate : (i : ℕ) → T (A i) → 0 < clash-count A i → T (clashing n fails A i)
     candidate i t h = and-both (A i) (ltb 0 (clash-count A i)) t (lt→ltb 0 (clash-count A i) h)
 
-    chosen : Chosen A (goes n fails A)
+    pub chosen : Chosen A (goes n fails A)
     unfolding goes
     chosen = choose-is (clashing n fails A) (more n fails A) (ranked A) n
 
@@ -99,7 +103,7 @@ module _ (n : ℕ) (fails : ℕ → ℕ → Bool) where
   -- ---- the turns
 
   -- what removals leave of A, they leave of all n
-  abbrev pub Reached : Subset → Type 0
+  abbrev Reached : Subset → Type 0
   Reached A = (K : Subset) → Leaves n fails K A → Leaves n fails K (first n)
 
   -- after k turns of which each took one out, or when no pair fails
@@ -120,6 +124,17 @@ module _ (n : ℕ) (fails : ℕ → ℕ → Bool) where
       go A (some i) e w r f =
           let g = goes-some A w i e in
           ((λ j t. w j (in-without A i j .0 t .0)), (λ K l. r K (then i g l)), fewer A i w g f)
+
+  pub alive-below : (k : ℕ) → Within (aliveTo n fails k)
+  alive-below k = turns k .0
+
+  -- where one goes there were fewer than n turns before
+  pub goes-early : (k i : ℕ) → Goes n fails (aliveTo n fails k) i → k < n
+  goes-early k i g = go (turns k .2)
+    where
+      go : Fewer k (aliveTo n fails k) → k < n
+      go (inl h) = omega (arith, count-pos (aliveTo n fails k) n i (alive-below k i (g .here)) (g .here))
+      go (inr c) = absurd (clear-stays (aliveTo n fails k) i c g)
 
   -- with nobody left no pair fails
   clear-at-last : (A : Subset) → Within A → Fewer n A → Clear n fails A

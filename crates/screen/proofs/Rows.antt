@@ -10,14 +10,35 @@ use lib.ListN.{getD, length, set, length-set, replicate}
 use lib.Seq.{getD-set-same, getD-set-other}
 use lib.IntN.{ℤ}
 use borrow.Author.Tests.{lt-ltb, le-ltb}
-use Rattle.sets.specs.Sets.{Subset, joined}
+use Rattle.sets.specs.Sets.{Subset, first, joined}
 use Rattle.sets.specs.Mask.{has}
 use Rattle.sets.proofs.Tests.{either, eq→T, eq→F, and-l, and-r, and-both, lt-suc-cases}
 use Rattle.sets.proofs.Belonging.{subset-ext, in-joined}
 use Rattle.sets.proofs.Digits.{has-zero}
 use Rattle.screen.specs.Pair.{clash, fails}
 use Rattle.screen.specs.Screen.{pairsOf}
+use Rattle.screen.specs.Meaning.{Clear}
 use Rattle.screen.proofs.Symmetry.{clash-sym, clash-self}
+
+pub zeros : (k a : ℕ) → _≡_ {A = ℕ} (getD (replicate k 0) a 0) 0
+zeros zero a = refl
+zeros (suc k) zero = refl
+zeros (suc k) (suc a) = zeros k a
+
+-- ---- the rows below i have no bit
+abbrev pub Bare : List ℕ → ℕ → Type 0
+Bare rows i = (j : ℕ) → j < i → getD rows j 0 ≡ 0
+
+pub bare-next : (rows : List ℕ) (i : ℕ) → getD rows i 0 ≤ 0 → Bare rows i → Bare rows (i + 1)
+bare-next rows i l b j k = go (lt-suc-cases j i (omega arith))
+  where
+    go : (j ≡ i) ⊎ (j < i) → getD rows j 0 ≡ 0
+    go (inl e) = subst (λ (x : ℕ). getD rows x 0 ≡ 0) (sym e) (omega arith)
+    go (inr h) = b j h
+
+pub bare-clear : (rows : List ℕ) (n : ℕ) → Bare rows n → Clear n (pairsOf rows) (first n)
+unfolding pairsOf
+bare-clear rows n b i j t u = eq→F (ap (λ (x : ℕ). has x j) (b i (ltb→lt i n t)) ∙ has-zero j)
 
 module _ (times sites : List ℤ) where
   -- those below k with which a fails
@@ -135,8 +156,3 @@ module _ (times sites : List ℤ) where
   pub marked-none : (k : ℕ) → pairsOf (replicate k 0) ≡ fails times sites 0
   unfolding pairsOf
   marked-none k = fun-ext (λ (a : ℕ). fun-ext (λ (b : ℕ). ap (λ (x : ℕ). has x b) (zeros k a) ∙ has-zero b ∙ sym (row-none a b)) ∙ sym (fails-none 0 a (omega arith)))
-    where
-      zeros : (k a : ℕ) → _≡_ {A = ℕ} (getD (replicate k 0) a 0) 0
-      zeros zero a = refl
-      zeros (suc k) zero = refl
-      zeros (suc k) (suc a) = zeros k a

@@ -1,3 +1,5 @@
 pub mod Pair
 pub mod Screen
 pub mod Meaning
+pub mod State
+pub mod Turns

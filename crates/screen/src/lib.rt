@@ -1,15 +1,19 @@
 // The feasibility screen: `screen` of solve.rs.
 ghost use mathlib.Core.Path.{_≡_};
-ghost use mathlib.Core.Bool.{cond};
-ghost use Prim.Native.Nat.{ℕ, _+_, _*_, _^_, _≤_, _<_};
+ghost use mathlib.Core.Bool.{true, cond};
+ghost use Prim.Native.Nat.{ℕ, _+_, _-_, _*_, _^_, _≤_, _<_};
 ghost use lib.Dec.{leb};
 ghost use lib.IntN.{pos};
 ghost use lib.ListN.{getD, length};
 ghost use Rattle.binary64.specs.Root.{floorRoot};
+ghost use Rattle.sets.specs.Sets.{first};
 ghost use Rattle.sets.specs.Mask.{has};
 ghost use Rattle.sets.specs.Choice.{indexOf};
 ghost use Rattle.screen.specs.Pair as pair;
 ghost use Rattle.screen.specs.Screen as removal;
+ghost use Rattle.screen.specs.Meaning.{Clear};
+ghost use Rattle.screen.specs.State.{numbersOf, heldBy, mostClashing, lessened, start};
+ghost use Rattle.screen.specs.Turns.{Told};
 
 // The allowance beyond the baseline, millimetres: of solve.rs.
 const SCREEN_MARGIN_MM: u64 = 1_000_000;
@@ -75,12 +79,14 @@ fn clash(times: &[i64; 32], sites: &[i64; 96], i: usize, j: usize) -> bool
     !reaches(x, y, z, least)
 }
 
-// `earlier`, the failing pairs of the receptions before i, and those of i with them.
-fn mark(times: &[i64; 32], sites: &[i64; 96], i: usize, earlier: [u32; 32]) -> [u32; 32]
-    requires { ⌜ (i < 32) × (removal.pairsOf earlier ≡ pair.fails (now times) (now sites) i) ⌝ }
-    ensures { λ r. ⌜ removal.pairsOf r ≡ pair.fails (now (times .entry)) (now (sites .entry)) (i + 1) ⌝ }
+// Puts the failing pairs of reception i with those before it to `rows`, which has the pairs of these.
+fn mark(times: &[i64; 32], sites: &[i64; 96], i: usize, rows: &mut [u32; 32])
+    requires { ⌜ (i < 32) × (length (now rows) ≡ 32) ⌝ }
+    requires { ⌜ removal.pairsOf (now rows) ≡ pair.fails (now times) (now sites) i ⌝ }
+    ensures { λ r. ⌜ length (now (rows .exit)) ≡ 32 ⌝ }
+    ensures { λ r. ⌜ removal.pairsOf (now (rows .exit))
+        ≡ pair.fails (now (times .entry)) (now (sites .entry)) (i + 1) ⌝ }
 {
-    let mut rows = earlier;
     let mut j = 0usize;
     while j < i {
         if clash(times, sites, i, j) {
@@ -89,46 +95,57 @@ fn mark(times: &[i64; 32], sites: &[i64; 96], i: usize, earlier: [u32; 32]) -> [
         }
         j += 1;
     }
-    rows
 }
 
 // The failing pairs of the first n receptions: bit j of row i is set where the pair i, j fails.
-fn failing(times: &[i64; 32], sites: &[i64; 96], n: usize) -> [u32; 32]
+pub fn failing(times: &[i64; 32], sites: &[i64; 96], n: usize) -> [u32; 32]
     requires { ⌜ n ≤ 32 ⌝ }
     ensures { λ r. ⌜ removal.pairsOf r ≡ pair.fails (now (times .entry)) (now (sites .entry)) n ⌝ }
 {
     let mut rows = [0u32; 32];
     let mut i = 0usize;
     while i < n {
-        let next = mark(times, sites, i, rows);
-        rows = next;
+        mark(times, sites, i, &mut rows);
         i += 1;
     }
     rows
 }
 
-// The clash count of reception i: its failing pairs with those of `alive`, and 0 where it is not
-// of them itself.
-fn clashes(rows: &[u32; 32], alive: u32, i: usize) -> u32
-    requires { ⌜ i < 32 ⌝ }
-    ensures { λ r. ⌜ ((n : ℕ) → n ≤ 32 → alive < 2 ^ n → r ≡ cond (has alive i) (removal.clashes n (removal.pairsOf (now (rows .entry))) (has alive) i) 0) ⌝ }
-{
-    if sets::has(alive, i) {
-        return sets::count(alive & rows[i]);
-    }
-    0
+// The state of the removals: the receptions still in, and for each of them the number of failing
+// pairs that it has with others still in. A removed one holds 0.
+struct State {
+    alive: u32,
+    counts: [u32; 32],
 }
 
-// Which of `alive` goes: the one in most failing pairs, the lowest index on ties, or NONE.
-fn goes(rows: &[u32; 32], alive: u32, n: usize) -> usize
-    requires { ⌜ (n ≤ 32) × (alive < 2 ^ n) ⌝ }
-    ensures { λ r. ⌜ r ≡ indexOf (removal.goes n (removal.pairsOf (now (rows .entry))) (has alive)) ⌝ }
+// The state with all n in. Pairs are counted here and nowhere else.
+fn start(rows: &[u32; 32], n: usize) -> State
+    requires { ⌜ n ≤ 32 ⌝ }
+    ensures { λ r. ⌜ (heldBy r ≡ start n (removal.pairsOf (now (rows .entry)))) × (r .alive < 2 ^ n) ⌝ }
+{
+    let alive = sets::first(n);
+    let mut counts = [0u32; 32];
+    let mut i = 0usize;
+    while i < n {
+        counts[i] = sets::count(alive & rows[i]);
+        i += 1;
+    }
+    State {
+        alive: alive,
+        counts: counts,
+    }
+}
+
+// Which goes: the one in most failing pairs by these numbers, the lowest index on ties, or NONE.
+fn most_clashing(counts: &[u32; 32], n: usize) -> usize
+    requires { ⌜ n ≤ 32 ⌝ }
+    ensures { λ r. ⌜ r ≡ indexOf (mostClashing n (numbersOf (now (counts .entry)))) ⌝ }
 {
     let mut worst = sets::NONE;
     let mut most = 0u32;
     let mut i = 0usize;
     while i < n {
-        let count = clashes(rows, alive, i);
+        let count = counts[i];
         if most < count {
             most = count;
             worst = i;
@@ -138,18 +155,91 @@ fn goes(rows: &[u32; 32], alive: u32, n: usize) -> usize
     worst
 }
 
-// Those of n receptions that are left once no pair of `rows` is.
-fn kept(rows: &[u32; 32], n: usize) -> u32
+// One less than `count` where the row has w. 0 stays 0.
+fn less(count: u32, row: u32, w: usize) -> u32
+    requires { ⌜ w < 32 ⌝ }
+    ensures { λ r. ⌜ r ≡ count - cond (has row w) 1 0 ⌝ }
+{
+    if count == 0 {
+        return 0;
+    }
+    count - (row >> w) % 2
+}
+
+// The numbers once w is removed: it holds 0, and one is taken off each that fails with it. One that
+// was removed before holds 0 already, and keeps it.
+fn lessen(rows: &[u32; 32], n: usize, w: usize, counts: &mut [u32; 32])
+    requires { ⌜ (n ≤ 32) × (w < n) × (length (now counts) ≡ 32) ⌝ }
+    ensures { λ r. ⌜ length (now (counts .exit)) ≡ 32 ⌝ }
+    ensures { λ r. ⌜ numbersOf (now (counts .exit))
+        ≡ lessened (removal.pairsOf (now (rows .entry))) (first n) w (numbersOf (now (counts .entry))) ⌝ }
+{
+    counts[w] = 0;
+    let mut i = 0usize;
+    while i < n {
+        counts[i] = less(counts[i], rows[i], w);
+        i += 1;
+    }
+}
+
+// What the removals do to n receptions: which are kept, and of each other one the turn of its
+// removal, from 1, and its clash count in that turn. Both are 0 for a kept one.
+pub struct Outcome {
+    pub kept: u32,
+    pub turns: [u32; 32],
+    pub clashes: [u32; 32],
+}
+
+// The removals, one after another, until no pair of `rows` is left.
+pub fn removals(rows: &[u32; 32], n: usize) -> Outcome
+    requires { ⌜ n ≤ 32 ⌝ }
+    ensures { λ r. ⌜ Told n (removal.pairsOf (now (rows .entry))) r ⌝ }
+{
+    let mut state = start(rows, n);
+    let mut turns = [0u32; 32];
+    let mut clashes = [0u32; 32];
+    let mut turn = 0u32;
+    let mut worst = most_clashing(&state.counts, n);
+    while worst < sets::NONE {
+        turn += 1;
+        turns[worst] = turn;
+        clashes[worst] = state.counts[worst];
+        state.alive = sets::without(state.alive, worst);
+        lessen(rows, n, worst, &mut state.counts);
+        worst = most_clashing(&state.counts, n);
+    }
+    Outcome {
+        kept: state.alive,
+        turns: turns,
+        clashes: clashes,
+    }
+}
+
+// Whether no two of n receptions fail: no row has any.
+fn clear(rows: &[u32; 32], n: usize) -> bool
+    requires { ⌜ n ≤ 32 ⌝ }
+    ensures { λ r. ⌜ (r ≡ true → Clear n (removal.pairsOf (now (rows .entry))) (first n)) ⌝ }
+{
+    let mut i = 0usize;
+    while i < n {
+        if rows[i] > 0 {
+            return false;
+        }
+        i += 1;
+    }
+    true
+}
+
+// Those of n receptions that are left once no pair of `rows` is. Nothing is counted where none is.
+pub fn kept(rows: &[u32; 32], n: usize) -> u32
     requires { ⌜ n ≤ 32 ⌝ }
     ensures { λ r. ⌜ (has r ≡ removal.kept n (removal.pairsOf (now (rows .entry)))) × (r < 2 ^ n) ⌝ }
 {
-    let mut alive = sets::first(n);
-    let mut worst = goes(rows, alive, n);
-    while worst < sets::NONE {
-        alive = sets::without(alive, worst);
-        worst = goes(rows, alive, n);
+    if clear(rows, n) {
+        return sets::first(n);
     }
-    alive
+    let all = removals(rows, n);
+    all.kept
 }
 
 // The receptions that the screen keeps, of the n with these times (picoseconds) and sites
