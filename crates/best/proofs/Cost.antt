@@ -8,6 +8,7 @@ use lib.Dec.{T}
 use lib.ListN.{replicate}
 use lib.Ieee.{Float, Format, binary64, nan, inf, fin, add, sub, mul, div, neg, lt, le, isNan, ofBits}
 use Rattle.binary64.specs.Steps.{_⊕_, _⊗_, decimal, nought, abs, isFinite}
+use Rattle.binary64.proofs.Numbers.{add-none, none-add}
 use Rattle.sets.proofs.Tests.{and-l, and-r}
 use Rattle.dense.specs.Entries.{nth, minusDots}
 use Rattle.dense.specs.Factor.{Factor, found, refused, cholesky}
@@ -21,7 +22,7 @@ use Rattle.damped.specs.declared.Lm.{Lm}
 use Rattle.damped.specs.declared.Stepped.{Stepped}
 use Rattle.damped.specs.declared.Verdict.the-variants.{Accepted, Converged, Rejected, Stopped, Failed}
 use Rattle.damped.specs.Damped.{dampedTo, solved, descent, moved, below, small, better, accepted, rejected, step, fitted, unfitted, plain, after, run, started, levenbergMarquardt}
-use Rattle.damped.proofs.Squares.{clear, add-clear, square-clear, add-none, none-add}
+use Rattle.damped.proofs.Squares.{clear, add-clear, square-clear}
 
 -- ---- sums of squares
 

@@ -1,4 +1,4 @@
--- The laws that the proofs share, from plain numbers up to the statements of specs/Meaning.antt.
+-- The laws that the proofs share, from plain numbers up to the statements of specs/Meaning.antt; from Units on, bounds on runs of steps.
 pub mod Squares
 pub mod Floor
 pub mod Fold
@@ -14,3 +14,13 @@ pub mod RootDigits
 pub mod Held
 pub mod Meaning
 pub mod Edges
+pub mod Units
+pub mod Rounded
+pub mod Interval
+pub mod Runs
+pub mod Order
+pub mod Tail
+pub mod Own
+pub mod Quotient
+pub mod RootBounds
+pub mod Numbers

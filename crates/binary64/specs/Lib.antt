@@ -1,4 +1,5 @@
 pub mod Steps
+pub mod Within
 pub mod Root
 pub mod Rounding
 pub mod Meaning

@@ -14,6 +14,7 @@ use lib.Ieee.Exact.{round-exact}
 use lib.Ieee.Order.{round-mono}
 use Rattle.binary64.specs.Steps.{_⊕_, _⊗_, isFinite}
 use Rattle.binary64.proofs.Held.{in-units, is-held, same-units}
+use Rattle.binary64.proofs.Numbers.{add-none, none-add}
 use Rattle.dense.specs.Entries.{nth}
 use Rattle.whitening.specs.Normal.{costTo}
 
@@ -59,17 +60,6 @@ square-clear f (fin false m e) = inl (round-clear f _ _)
 none-square : mul binary64 nan nan ≡ nan
 unfolding mul
 none-square = refl
-
--- a sum with a not-a-number is one
-pub add-none : (f : Format) (x : Float) → add f x nan ≡ nan
-unfolding add
-add-none f nan = refl
-add-none f (inf s) = refl
-add-none f (fin s m e) = refl
-
-pub none-add : (f : Format) (y : Float) → add f nan y ≡ nan
-unfolding add
-none-add f y = refl
 
 -- the square of no number gives no number
 pub more-none : (s x : Float) → x ≡ nan → s ⊕ x ⊗ x ≡ nan

@@ -4,3 +4,5 @@ pub mod NearOne
 pub mod Rounds
 pub mod Cast
 pub mod Edges
+pub mod Places
+pub mod Meaning

@@ -1,2 +1,3 @@
 pub mod Geo
 pub mod NearOne
+pub mod Meaning

@@ -3,4 +3,14 @@ pub mod Infinity
 pub mod Cast
 pub mod Sizes
 pub mod Limit
+pub mod HighWords
+pub mod KernelBounds
+pub mod StageBounds
+pub mod ReducedBounds
+pub mod ArcBounds
+pub mod MediumBounds
+pub mod ScaledBounds
+pub mod SubnormalBounds
+pub mod LengthBounds
+pub mod Meaning
 mod Worked

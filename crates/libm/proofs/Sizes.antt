@@ -21,11 +21,11 @@ use Rattle.binary64.proofs.Fields.{abs-bits, finite-bits}
 use Rattle.libm.specs.Words.{high, word}
 
 -- ---- a value of the exponent's field x and the digits t, in units of 2 ^ -1074
-abbrev size : ℕ → ℕ → ℕ
+abbrev pub size : ℕ → ℕ → ℕ
 size zero t = t
 size (suc x) t = (2 ^ 52 + t) * 2 ^ x
 
-value : (x t : ℕ) → x < 2047 → HasValue (ofFields binary64 false x t) false (size x t) (2 ^ 1074)
+pub value : (x t : ℕ) → x < 2047 → HasValue (ofFields binary64 false x t) false (size x t) (2 ^ 1074)
 value zero t h = fields-low false t
 value (suc x) t h = fields-mid false x t h
 
@@ -89,11 +89,19 @@ by-bits p q h k =
     let w = by-units (ofFields binary64 false (p / 2 ^ 52) (p % 2 ^ 52)) (ofFields binary64 false (q / 2 ^ 52) (q % 2 ^ 52)) _ _ (2 ^ 1074) (pow-pos 1074) u v in
     rw (clear p (omega arith), clear q (omega arith)) (w ∙ same _ _ p q (fields-grow p q) (fields-keep p q))
 
+-- a finite x and its bits without the sign
+pub own-bits : (x : Float) → fits binary64 x ≡ true → isFinite x ≡ true
+    → (abs x ≡ # (toBits binary64 x % 2 ^ 63)) × (toBits binary64 x % 2 ^ 63 < 0x7ff0000000000000)
+own-bits x f n =
+    let b = toBits binary64 x in
+    (sym (abs-bits b ∙ ap abs (back x f)), ltb-true (b % 2 ^ 63) 0x7ff0000000000000 (finite-bits b ∙ ap isFinite (back x f) ∙ n))
+
 -- a finite x by its high word
 pub by-high : (x : Float) (h : ℕ) → fits binary64 x ≡ true → isFinite x ≡ true → h < 0x7ff00000 → lt (abs x) (word h) ≡ ltb (high x) h
 unfolding high
 by-high x h f n k =
     let b = toBits binary64 x in
-    let e : abs x ≡ # (b % 2 ^ 63) = sym (abs-bits b ∙ ap abs (back x f)) in
-    let l : b % 2 ^ 63 < 0x7ff0000000000000 = ltb-true (b % 2 ^ 63) 0x7ff0000000000000 (finite-bits b ∙ ap isFinite (back x f) ∙ n) in
-    rw e (by-bits (b % 2 ^ 63) (h * 2 ^ 32) l (omega arith) ∙ same (b % 2 ^ 63) (h * 2 ^ 32) (b / 2 ^ 32 % 2 ^ 31) h (λ u. omega arith) (λ u. omega arith))
+    let o = own-bits x f n in
+    rw (o .0)
+    (by-bits (b % 2 ^ 63) (h * 2 ^ 32) (o .1) (omega arith)
+    ∙ same (b % 2 ^ 63) (h * 2 ^ 32) (b / 2 ^ 32 % 2 ^ 31) h (λ u. omega arith) (λ u. omega arith))

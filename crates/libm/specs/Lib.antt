@@ -4,3 +4,4 @@ pub mod RemPio2
 pub mod Trig
 pub mod Atan
 pub mod Hypotenuse
+pub mod Meaning

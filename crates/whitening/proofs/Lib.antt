@@ -1,3 +1,4 @@
 pub mod Costs
 pub mod Turns
 pub mod Joined
+pub mod Meaning

@@ -1,3 +1,4 @@
 pub mod Covariance
 pub mod Whitened
 pub mod Normal
+pub mod Meaning

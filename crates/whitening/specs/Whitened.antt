@@ -79,10 +79,13 @@ placeOf None p = record { «lat_deg» = nought; «lon_deg» = nought; «height_m
 placeOf (Barometric metres) p = fromEcef (position p)
 placeOf (Gnss metres) p = fromEcef (position p)
 
+-- the unit vector up at a place: `enu_basis(..)[2]`
+abbrev pub up : Geodetic → List Float
+up g = getD (enuBasis (g .«lat_deg») (g .«lon_deg»)) 2 []
+
 -- the slopes of the altitude's row at a place: `up` over sigma, and 0
 unfoldable pub upRow : Float → Geodetic → List Float
-upRow sigma g =
-    let up = getD (enuBasis (g .«lat_deg») (g .«lon_deg»)) 2 [] in (nth up 0 ⊘ sigma) ∷ (nth up 1 ⊘ sigma) ∷ (nth up 2 ⊘ sigma) ∷ nought ∷ []
+upRow sigma g = (nth (up g) 0 ⊘ sigma) ∷ (nth (up g) 1 ⊘ sigma) ∷ (nth (up g) 2 ⊘ sigma) ∷ nought ∷ []
 
 -- the altitude's row: `(position.height_m - metres) / sigma`, and its slopes
 abbrev pub heightRow : Float → Float → Geodetic → List Float
