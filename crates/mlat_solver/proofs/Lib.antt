@@ -3,3 +3,4 @@ pub mod Edges
 pub mod Meaning
 pub mod Lending
 pub mod Returned
+pub mod Display

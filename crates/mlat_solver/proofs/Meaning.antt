@@ -9,7 +9,7 @@ use Rattle.binary64.proofs.Meaning.{root-nearest, root-elsewhere, rounds-half-a
 use Rattle.mlat_solver.specs.Meaning.{IsRoot, IsRounded}
 
 -- as owning an f64 tells it
-held : (x : Float) → fits binary64 x ≡ true → T (fits binary64 x)
+pub held : (x : Float) → fits binary64 x ≡ true → T (fits binary64 x)
 held x f = subst T (sym f) tt
 
 root-is-root : (x : Float) → T (fits binary64 x) → IsRoot x (root x)

@@ -2,3 +2,4 @@ pub mod Lent
 pub mod Edges
 pub mod Meaning
 pub mod Records
+pub mod Display

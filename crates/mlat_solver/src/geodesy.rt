@@ -1,6 +1,7 @@
 // Geodesy: geo.rs, for callers in C.
 ghost use mathlib.Core.Path.{_≡_};
 ghost use Rattle.geo.specs.Geo.{toEcef, fromEcef, enuBasis, toMm, fromMm};
+ghost use Rattle.mlat_solver.specs.Display.{IsBoundedBasis};
 ghost use Rattle.mlat_solver.specs.Lent.{geodeticOf, threeOf, nineOf};
 use geo::Geodetic;
 
@@ -49,10 +50,12 @@ pub fn nine(b: [[f64; 3]; 3]) -> [f64; 9]
     ]
 }
 
-// The unit vectors east, north and up at a latitude and longitude, in ECEF, one after the other.
+// The unit vectors east, north and up at a latitude and longitude, in ECEF, one after the other. Each entry
+// lies from -1 to 1, for a latitude within ±90 and a longitude within ±180.
 #[no_mangle]
 pub extern "C" fn mlat_enu_basis(lat_deg: f64, lon_deg: f64, basis: &mut [f64; 9])
-    ensures { λ _. ⌜ now (basis .exit) ≡ nineOf (enuBasis «lat_deg» «lon_deg») ⌝ }
+    ensures value { λ _. ⌜ now (basis .exit) ≡ nineOf (enuBasis «lat_deg» «lon_deg») ⌝ }
+    ensures meaning { λ _. ⌜ IsBoundedBasis «lat_deg» «lon_deg» (now (basis .exit)) ⌝ }
 {
     *basis = nine(geo::enu_basis(lat_deg, lon_deg));
 }

@@ -6,6 +6,7 @@ ghost use Rattle.binary64.specs.Rounding.{halfAway};
 ghost use Rattle.libm.specs.Trig.{sin, cos};
 ghost use Rattle.libm.specs.Atan.{atan2};
 ghost use Rattle.libm.specs.Hypotenuse.{hypot};
+ghost use Rattle.mlat_solver.specs.Display.{IsBounded, AreBounded};
 ghost use Rattle.mlat_solver.specs.Meaning.{IsRoot, IsRounded};
 
 // The binary64 nearest the exact square root, ties to even. -0 gives -0, any other negative number
@@ -28,18 +29,22 @@ pub extern "C" fn mlat_round(x: f64) -> f64
     binary64::round(x)
 }
 
-// The sine of an angle within ±7 by the steps of fdlibm 5.3; a not-a-number for any other.
+// The sine of an angle within ±7 by the steps of fdlibm 5.3: from -1 to 1, ends included. A not-a-number
+// for any other.
 #[no_mangle]
 pub extern "C" fn mlat_sin(x: f64) -> f64
-    ensures { λ r. ⌜ r ≡ sin x ⌝ }
+    ensures value { λ r. ⌜ r ≡ sin x ⌝ }
+    ensures meaning { λ r. ⌜ IsBounded x r ⌝ }
 {
     libm::sin(x)
 }
 
-// The cosine of an angle within ±7 by the steps of fdlibm 5.3; a not-a-number for any other.
+// The cosine of an angle within ±7 by the steps of fdlibm 5.3: from -1 to 1, ends included. A not-a-number
+// for any other.
 #[no_mangle]
 pub extern "C" fn mlat_cos(x: f64) -> f64
-    ensures { λ r. ⌜ r ≡ cos x ⌝ }
+    ensures value { λ r. ⌜ r ≡ cos x ⌝ }
+    ensures meaning { λ r. ⌜ IsBounded x r ⌝ }
 {
     libm::cos(x)
 }
@@ -47,7 +52,8 @@ pub extern "C" fn mlat_cos(x: f64) -> f64
 // Both together: the sine, then the cosine.
 #[no_mangle]
 pub extern "C" fn mlat_sincos(x: f64, pair: &mut [f64; 2])
-    ensures { λ _. ⌜ now (pair .exit) ≡ sin x ∷ cos x ∷ [] ⌝ }
+    ensures value { λ _. ⌜ now (pair .exit) ≡ sin x ∷ cos x ∷ [] ⌝ }
+    ensures meaning { λ _. ⌜ AreBounded x (now (pair .exit)) ⌝ }
 {
     let both = libm::sincos(x);
     *pair = [both.sin, both.cos];
