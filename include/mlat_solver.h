@@ -47,7 +47,8 @@ double mlat_sqrt(double x);
 /* The nearest whole number, a half away from zero, with the sign of x. Infinities and not-a-numbers pass. */
 double mlat_round(double x);
 
-/* Sine and cosine of an angle within 7 radians either way, by the steps of fdlibm 5.3; a not-a-number for any other. */
+/* Sine and cosine of an angle within 7 radians either way, by the steps of fdlibm 5.3: from -1 to 1, ends included.
+   A not-a-number for any other angle. */
 double mlat_sin(double x);
 double mlat_cos(double x);
 
@@ -61,11 +62,15 @@ double mlat_hypot(double x, double y);
 /* ---- geodesy */
 
 /* WGS 84: latitude and longitude in degrees and height above the ellipsoid in metres, geodetic[0] to [2], to Earth-centred Earth-fixed metres,
-   and back. Each entry of the array that is written is what geo.rs gives with fdlibm's functions, to the bit. */
+   and back. Each entry of the array that is written is what geo.rs gives with fdlibm's functions, to the bit.
+   Every finite point has a latitude and a longitude but the centre of the earth, 0, 0, 0: its latitude is a
+   not-a-number. */
 void mlat_to_ecef(const double geodetic[3], double ecef[3]);
 void mlat_from_ecef(const double ecef[3], double geodetic[3]);
 
-/* The unit vectors east, north and up at a latitude and longitude, degrees, in ECEF: three after three. */
+/* The unit vectors east, north and up at a latitude and longitude, degrees, in ECEF: three after three. Each entry lies
+   from -1 to 1, ends included, for a latitude within 90 and a longitude within 180 either way, and at the place that
+   mlat_from_ecef gives of any finite point but the centre of the earth. */
 void mlat_enu_basis(double lat_deg, double lon_deg, double basis[9]);
 
 /* ECEF metres to whole millimetres: a half away from zero, beyond an end of int64_t that end, 0 for a not-a-number; and back, by one division. */
