@@ -1,7 +1,7 @@
 -- What libm and geo say of sine, cosine and basis, of the numbers that the functions here hand back. Assumes nothing.
 use mathlib.Core.Path.{_≡_, sym, subst}
 use mathlib.Core.List.{List, [], _∷_}
-use Prim.Native.Nat.{ℕ, zero, suc, _<_}
+use Prim.Native.Nat.{ℕ, zero, suc}
 use native.Mathlib.Nat.{le-of-suc-le-suc}
 use native.Mathlib.Omega.{arith}
 use mathlib.Core.Bool.{true}
@@ -48,13 +48,17 @@ and-then : (x : Float) (xs : List Float) → Within one x → EachWithinOne xs �
 and-then x xs w v zero h = w
 and-then x xs w v (suc k) h = v k (le-of-suc-le-suc h)
 
-nine-in : (b : List (List Float)) → EntriesWithinOne b → EachWithinOne (nineOf b)
-nine-in b entries = row 0 tt _ (row 1 tt _ (row 2 tt [] none))
-  where
-    row : (i : ℕ) → T (ltb i 3) → (xs : List Float) → EachWithinOne xs → EachWithinOne (entry b i 0 ∷ entry b i 1 ∷ entry b i 2 ∷ xs)
-    row i p xs h =
-        let at : (j : ℕ) → T (ltb j 3) → Within one (entry b i j) = λ j q. entries i j (ltb→lt i 3 p) (ltb→lt j 3 q) in
-        and-then (entry b i 0) _ (at 0 tt) (and-then (entry b i 1) _ (at 1 tt) (and-then (entry b i 2) xs (at 2 tt) h))
+module _ (b : List (List Float)) (entries : EntriesWithinOne b) where
+  row : (i : ℕ) → T (ltb i 3) → (xs : List Float) → EachWithinOne xs → EachWithinOne (entry b i 0 ∷ entry b i 1 ∷ entry b i 2 ∷ xs)
+  row i p xs h =
+      let at : (j : ℕ) → T (ltb j 3) → Within one (entry b i j) = λ j q. entries i j (ltb→lt i 3 p) (ltb→lt j 3 q) in
+      and-then (entry b i 0) (entry b i 1 ∷ entry b i 2 ∷ xs) (at 0 tt)
+      (and-then (entry b i 1) (entry b i 2 ∷ xs) (at 1 tt) (and-then (entry b i 2) xs (at 2 tt) h))
+
+  nine-in : EachWithinOne (nineOf b)
+  nine-in =
+      row 0 tt (entry b 1 0 ∷ entry b 1 1 ∷ entry b 1 2 ∷ entry b 2 0 ∷ entry b 2 1 ∷ entry b 2 2 ∷ [])
+      (row 1 tt (entry b 2 0 ∷ entry b 2 1 ∷ entry b 2 2 ∷ []) (row 2 tt [] none))
 
 pub basis : (a b : Float) → fits binary64 a ≡ true → fits binary64 b ≡ true → (v : List Float) → v ≡ nineOf (enuBasis a b) → IsBoundedBasis a b v
 basis a b f g v e =

@@ -1,5 +1,5 @@
--- What callers of the sine, the cosine and the basis are promised of the numbers that they get. Document 02, Item 4: "The
--- display team multiplies by our basis vectors and wants a bound." Definitions only.
+-- What callers of the sine, the cosine and the basis are promised of the numbers that they get. Document 02, Item 4:
+-- "The display team multiplies by our basis vectors and wants a bound." Definitions only.
 use mathlib.Core.Path.{_≡_}
 use mathlib.Core.List.{List}
 use Prim.Native.Nat.{ℕ, _<_}
@@ -25,4 +25,5 @@ EachWithinOne numbers = (k : ℕ) → k < length numbers → Within one (getD nu
 -- each of the nine does "for latitude within ±90 and longitude within ±180", and wherever sine and cosine take both
 abbrev pub IsBoundedBasis : Float → Float → List Float → Type 0
 IsBoundedBasis lat lon nine =
-    (Within (decimal 90 0) lat → Within (decimal 180 0) lon → EachWithinOne nine) × (Turn lat → Turn lon → EachWithinOne nine)
+    (Within (decimal 90 0) lat → Within (decimal 180 0) lon → EachWithinOne nine)
+    × (Turn lat → Turn lon → EachWithinOne nine)
