@@ -1,16 +1,8 @@
 -- The constants have the bits that the code has, computed by the definitions of binary64. Assumes nothing.
 use mathlib.Core.Path.{_≡_, refl}
-use lib.Ieee.{round, neg, ofBits}
+use lib.Ieee.{round, ofBits}
 use Rattle.binary64.specs.Steps.{#, decimal}
-use Rattle.best.specs.Plausible.{minHeightM, maxHeightM, maxRangeM}
-
-pub lowest : minHeightM ≡ # 0xC097700000000000
-unfolding minHeightM round neg ofBits
-lowest = refl
-
-pub highest : maxHeightM ≡ # 0x40D86A0000000000
-unfolding maxHeightM round ofBits
-highest = refl
+use Rattle.best.specs.Plausible.{maxRangeM}
 
 pub farthest : maxRangeM ≡ # 0x41224F8000000000
 unfolding maxRangeM round ofBits

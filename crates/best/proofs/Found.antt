@@ -19,7 +19,8 @@ use Rattle.damped.specs.declared.Fit.{Fit}
 use Rattle.damped.specs.Damped.{levenbergMarquardt}
 use Rattle.best.specs.declared.Unfit.{Unfit}
 use Rattle.best.specs.declared.Unfit.the-variants.{NoConvergence, OutOfRange, Ambiguous}
-use Rattle.best.specs.Plausible.{minHeightM, maxHeightM, maxRangeM, range, nearTo, plausible}
+use Rattle.limits.specs.Heights.{minHeightM, maxHeightM}
+use Rattle.best.specs.Plausible.{maxRangeM, range, nearTo, plausible}
 use Rattle.best.specs.Best.{gives, fails, fitAt, any, weighed, rival, bestOf, judged, best}
 use Rattle.best.specs.Meaning.{fitFrom, Plausible, IsBest, Answered}
 use Rattle.best.proofs.Passes.{nothing}

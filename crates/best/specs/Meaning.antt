@@ -15,7 +15,8 @@ use Rattle.whitening.specs.Whitened.{Chosen}
 use Rattle.damped.specs.declared.Fit.{Fit}
 use Rattle.damped.specs.Damped.{levenbergMarquardt}
 use Rattle.best.specs.declared.Unfit.the-variants.{NoConvergence, OutOfRange}
-use Rattle.best.specs.Plausible.{minHeightM, maxHeightM, maxRangeM, range}
+use Rattle.limits.specs.Heights.{minHeightM, maxHeightM}
+use Rattle.best.specs.Plausible.{maxRangeM, range}
 use Rattle.best.specs.Best.{gives, fails, weighed, rival, best}
 use Rattle.best.specs.OfProblem.{Receptions, whitenerOver, chosenOver, startsOver, bestFitOver}
 

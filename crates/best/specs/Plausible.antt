@@ -2,19 +2,14 @@
 use mathlib.Core.Bool.{Bool, true, _&&_}
 use mathlib.Core.List.{List}
 use Prim.Native.Nat.{ℕ, zero, suc}
-use lib.Ieee.{Float, neg, le}
+use lib.Ieee.{Float, le}
 use Rattle.binary64.specs.Steps.{decimal}
 use Rattle.geo.specs.Geo.{fromEcef}
 use Rattle.linalg.specs.Vec3.{sub, norm}
 use Rattle.problem.specs.Problem.{siteAt, position}
+use Rattle.limits.specs.Heights.{minHeightM, maxHeightM}
 
--- `MIN_HEIGHT_M` and `MAX_HEIGHT_M`, metres above the ellipsoid, and `MAX_RANGE_M`
-unfoldable pub minHeightM : Float
-minHeightM = neg (decimal 1500 0)
-
-unfoldable pub maxHeightM : Float
-maxHeightM = decimal 25000 0
-
+-- `MAX_RANGE_M`
 unfoldable pub maxRangeM : Float
 maxRangeM = decimal 600000 0
 

@@ -12,18 +12,15 @@ ghost use Rattle.sets.specs.Sets as sets;
 ghost use Rattle.sets.specs.Mask.{has};
 ghost use Rattle.sets.specs.Choice.{choose, indexOf};
 ghost use Rattle.problem.specs.Gathered.{pick};
+ghost use Rattle.limits.specs.Heights.{minHeightM, maxHeightM};
 ghost use Rattle.whitening.specs.Whitened.{chosen};
 ghost use Rattle.damped.specs.Damped.{unfitted, levenbergMarquardt};
-ghost use Rattle.best.specs.Plausible.{minHeightM, maxHeightM, maxRangeM, range, nearTo, plausible};
+ghost use Rattle.best.specs.Plausible.{maxRangeM, range, nearTo, plausible};
 ghost use Rattle.best.specs.Best.{fails, asBest, distance, explainsAlike, fitAt, cheaper, any, weighed, bestOf, judged, pointsTo, bestFit};
 use damped::Fit;
 use linalg::Cholesky;
 use problem::Altitude;
 
-// Heights a solution may have, metres above the ellipsoid: of solve.rs.
-const MIN_HEIGHT_M: f64 = -1500.0;
-
-const MAX_HEIGHT_M: f64 = 25_000.0;
 // The farthest a solution may be from a receiver that heard it, metres: of solve.rs.
 const MAX_RANGE_M: f64 = 600_000.0;
 // What another fit may cost more than the best and still be weighed against it: of solve.rs.
@@ -84,7 +81,10 @@ fn all_near(sites: &[f64; 96], k: usize, x: [f64; 3]) -> bool
 fn flying(height: f64) -> bool
     ensures { λ r. ⌜ r ≡ (le minHeightM height && le height maxHeightM) ⌝ }
 {
-    both(MIN_HEIGHT_M <= height, height <= MAX_HEIGHT_M)
+    both(
+        limits::MIN_HEIGHT_M <= height,
+        height <= limits::MAX_HEIGHT_M,
+    )
 }
 
 // Where a solution may be: between the height limits and within range of every receiver used.

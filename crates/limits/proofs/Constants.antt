@@ -1,9 +1,18 @@
 -- The constants have the bits that the code has: those that Rust's expressions give, computed by the definitions of binary64. Assumes nothing.
 use mathlib.Core.Path.{_≡_, refl}
-use lib.Ieee.{round, add, ofBits}
+use lib.Ieee.{round, add, neg, ofBits}
 use Rattle.binary64.specs.Steps.{#, decimal}
+use Rattle.limits.specs.Heights.{minHeightM, maxHeightM}
 use Rattle.limits.specs.Limits.{chi2TailZ, roundingXM, roundingTM}
 use Rattle.limits.specs.Local.{errorInflation, errorFloorM}
+
+pub lowest : minHeightM ≡ # 0xC097700000000000
+unfolding minHeightM round neg ofBits
+lowest = refl
+
+pub highest : maxHeightM ≡ # 0x40D86A0000000000
+unfolding maxHeightM round ofBits
+highest = refl
 
 pub tail-z : chi2TailZ ≡ # 0x4013038194C01605
 unfolding chi2TailZ round ofBits

@@ -1,5 +1,5 @@
-// Of solve.rs: the limits on chi-square, the published covariance, and the covariance in the local
-// frame.
+// Of solve.rs: the limits on a solution's height and on chi-square, the published covariance, and the
+// covariance in the local frame.
 mod local;
 
 pub use local::enu_covariance;
@@ -8,6 +8,11 @@ ghost use mathlib.Core.Path.{_≡_};
 ghost use Prim.Native.Nat.{_<_, _≤_};
 ghost use Rattle.limits.specs.Limits.{chi2Limit, moved, roundingNorm, publishedChi2Limit};
 ghost use Rattle.limits.specs.Local.{inflated, publishedRow, published};
+
+// Heights a solution may have, metres above the ellipsoid.
+pub const MIN_HEIGHT_M: f64 = -1500.0;
+
+pub const MAX_HEIGHT_M: f64 = 25_000.0;
 
 // The chi-square test's tail probability is 10^-6; this is its standard normal quantile.
 pub const CHI2_TAIL_Z: f64 = 4.753_424;

@@ -24,7 +24,8 @@ use Rattle.problem.specs.Problem.{position, moment, four, minimum}
 use Rattle.limits.specs.Local.{published}
 use Rattle.whitening.specs.Whitened.{Chosen, residual, rawRow, whitened}
 use Rattle.damped.specs.declared.Fit.{Fit}
-use Rattle.best.specs.Plausible.{minHeightM, maxHeightM, maxRangeM, range}
+use Rattle.limits.specs.Heights.{minHeightM, maxHeightM}
+use Rattle.best.specs.Plausible.{maxRangeM, range}
 use Rattle.best.specs.Best.{fails, gives}
 use Rattle.best.specs.OfProblem.{Receptions, receptionsOf, whitenerOver, chosenOver, startsOver}
 use Rattle.best.specs.Meaning.{NoRival, IsBestOver}

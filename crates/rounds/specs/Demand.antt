@@ -18,7 +18,8 @@ use Rattle.problem.specs.declared.Problem.{Problem}
 use Rattle.problem.specs.Problem.{position, moment, minimum}
 use Rattle.damped.specs.declared.Fit.{Fit}
 use Rattle.best.specs.declared.Unfit.{Unfit}
-use Rattle.best.specs.Plausible.{minHeightM, maxHeightM, maxRangeM, range}
+use Rattle.limits.specs.Heights.{minHeightM, maxHeightM}
+use Rattle.best.specs.Plausible.{maxRangeM, range}
 use Rattle.best.specs.Best.{fails, gives}
 use Rattle.best.specs.OfProblem.{receptionsOf, whitenerOver, chosenOver, startsOver}
 use Rattle.best.specs.Meaning.{NoRival}

@@ -1,6 +1,6 @@
 -- `best::flying` meets its contract. Both ends are included, and a not-a-number is at neither side of them. Assumes nothing.
 use borrow.Author.Needs.{needs}
-use Rattle.best.proofs.Constants.{lowest, highest}
+use Rattle.limits.proofs.Constants.{lowest, highest}
 use Rattle.best.proofs.flying.Statement.{statement}
 use Rattle.best.proofs.flying.Tie as tie
 

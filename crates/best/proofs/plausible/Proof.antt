@@ -8,7 +8,8 @@ use lib.Ieee.{Float, le}
 use Rattle.geo.specs.Geo.{fromEcef}
 use Rattle.geo.specs.declared.Geodetic.{Geodetic}
 use Rattle.problem.specs.Problem.{position}
-use Rattle.best.specs.Plausible.{minHeightM, maxHeightM, nearTo, plausible}
+use Rattle.limits.specs.Heights.{minHeightM, maxHeightM}
+use Rattle.best.specs.Plausible.{nearTo, plausible}
 use Rattle.best.proofs.plausible.Statement.{statement}
 use Rattle.best.proofs.plausible.Tie as tie
 
