@@ -4,3 +4,4 @@ pub mod Meaning
 pub mod Lending
 pub mod Returned
 pub mod Display
+pub mod Written

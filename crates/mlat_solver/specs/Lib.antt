@@ -3,3 +3,4 @@ pub mod Edges
 pub mod Meaning
 pub mod Records
 pub mod Display
+pub mod Positions

@@ -1,10 +1,11 @@
 // What is open to callers, under its C names: a module a subject, as in include/mlat_solver.h (numbers, geodesy, claims, solve,
-// records).
+// records, positions).
 // Each function takes every value and demands nothing. An array of fixed length that is lent as `&mut` is written
 // whole, or stays as it was where the call is refused.
 mod claims;
 mod geodesy;
 mod numbers;
+mod positions;
 mod records;
 mod solve;
 
@@ -23,6 +24,8 @@ pub use numbers::mlat_round;
 pub use numbers::mlat_sin;
 pub use numbers::mlat_sincos;
 pub use numbers::mlat_sqrt;
+pub use positions::mlat_from_wire;
+pub use positions::mlat_to_wire;
 pub use records::mlat_read_record;
 pub use records::mlat_record_at;
 pub use records::mlat_write_record;
