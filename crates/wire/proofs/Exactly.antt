@@ -20,7 +20,7 @@ use Rattle.wire.specs.declared.Written.the-variants as written
 use Rattle.wire.specs.Nearest.{signed}
 use Rattle.wire.specs.Wire.{perDegree, perMetre, inUnits, AtMost, within, writable, ofPosition, toWire}
 use Rattle.wire.specs.Meaning.{Nearest, IsNearest, WithinLimits, IsWritten, WritesExactly, RefusesOthers}
-use Rattle.wire.proofs.Meaning.{in-units-nearest}
+use Rattle.wire.proofs.Meaning.{by-units}
 use Rattle.wire.proofs.Arms.{whole, beyond, unread, fixless, fixed}
 use Rattle.wire.proofs.Limits.{small}
 
@@ -107,13 +107,13 @@ passes p k =
 
 -- ---- the nearest whole number of a number
 nearest-at : (unit : ℕ) (x : Float) (w : ℤ) → inUnits unit x ≡ w → IsNearest unit x w
-nearest-at unit x w e s a c p h = subst (Nearest (signed s (a * unit)) c) e (in-units-nearest unit x s a c p h .0)
+nearest-at unit x w e s a c p h = subst (Nearest (signed s (a * unit)) c) e (by-units unit x s a c p h .0)
 
 nearest-only : (unit n : ℕ) (x : Float) (w : ℤ) → AtMost n x → IsNearest unit x w → w ≡ inUnits unit x
 nearest-only unit n nan w h k = absurd h
 nearest-only unit n (inf s) w h k = absurd h
 nearest-only unit n (fin s m e) w h k =
-    in-units-nearest unit (fin s m e) s (m * up e) (down e) (down-pos e) (refl, refl) .1 w (k s (m * up e) (down e) (down-pos e) (refl, refl))
+    by-units unit (fin s m e) s (m * up e) (down e) (down-pos e) (refl, refl) .1 w (k s (m * up e) (down e) (down-pos e) (refl, refl))
 
 -- ---- both ways
 is-written : (s : List ℕ) (w : Wire) → toWire s ≡ written.Whole w → IsWritten s w

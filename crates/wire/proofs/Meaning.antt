@@ -105,8 +105,13 @@ by-value unit (fin t m e) s a c p h =
     half-same : (a b c d : ℕ) → 0 < b → 0 < d → a * d ≡ c * b → halfUp a b ≡ halfUp c d
     half-same a b c d p q h = div-same (2 * a + b) (2 * b) (2 * c + d) (2 * d) (omega arith) (omega arith) (doubled a b c d h)
 
-pub in-units-nearest : InUnitsIsNearest
-in-units-nearest unit x s a c p h =
+pub by-units
+    : (unit : ℕ) (x : Float) (s : Bool) (a c : ℕ) → 0 < c → HasValue x s a c
+    → Nearest (signed s (a * unit)) c (inUnits unit x) × ((w : ℤ) → Nearest (signed s (a * unit)) c w → w ≡ inUnits unit x)
+by-units unit x s a c p h =
     let e : inUnits unit x ≡ nearest (signed s (a * unit)) c = by-value unit x s a c p h ∙ sym (nearest-signed s (a * unit) c p) in
     let b = both s (a * unit) c p in
     (subst (Nearest (signed s (a * unit)) c) (sym e) (b .0), λ w k. b .1 w k ∙ sym e)
+
+pub in-units-nearest : InUnitsIsNearest
+in-units-nearest unit x s a c p h = by-units unit x s a c p h
