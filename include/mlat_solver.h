@@ -140,6 +140,21 @@ uint32_t mlat_read_record(const uint8_t *record, size_t record_len, uint32_t wor
 uint32_t mlat_write_record(const uint32_t words[6], const double numbers[18], int64_t transmit_ps, uint8_t *out,
                            size_t out_len);
 
+/* ---- positions: as the wire writes them */
+
+/* The position of the fix in a record, as whole numbers: wire[0] latitude and wire[1] longitude in 10^-7 degree, wire[2]
+   height in millimetres. Each is the whole number nearest the exact value of the record's float, at most half a unit
+   away, and of two as near the one farther from zero: 2^-8 degree is 39063, -2^-8 degree -39063. Returns 0; what
+   mlat_read_record gives where it refuses the record; then MLAT_BEYOND_THE_WIRE where the record holds no fix, or its
+   latitude is beyond 90 degrees either way, its longitude beyond 180 or its height outside -1,500 to 25,000 m, before
+   rounding and the ends included. A refusal leaves wire as it was. */
+uint32_t mlat_to_wire(const uint8_t *record, size_t record_len, int32_t wire[3]);
+
+/* The way back, by one division each: position[0] latitude and position[1] longitude in degrees, position[2] height in
+   metres. What is written again is the same three whole numbers. Returns 0; MLAT_BEYOND_THE_WIRE where one is beyond the
+   same limits, and then position stays as it was. Whatever mlat_to_wire writes is read back. */
+uint32_t mlat_from_wire(const int32_t wire[3], double position[3]);
+
 #ifdef __cplusplus
 }
 #endif
