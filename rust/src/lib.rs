@@ -29,16 +29,20 @@
 //!     Ok(())
 //! }
 //! ```
+//!
+//! [`Fix::to_wire`] has a position as whole numbers, as it is published, and [`Wire::position`] the way back.
 
 mod fix;
 mod record;
 mod records;
 mod refusal;
+mod wire;
 
 pub use fix::Fix;
 pub use record::{Record, read, write};
 pub use records::{Iter, Records};
 pub use refusal::{Field, Refusal};
+pub use wire::{Position, Wire, to_wire};
 
 /// The length of a record.
 pub const RECORD: usize = 176;
