@@ -1,5 +1,5 @@
 -- A file that is too long gets the reply of what the program `solve` cuts it to: the statement of specs/Cut.antt. Assumes nothing.
-use Prim.Native.Nat.{ℕ, _*_, _/_, _%_, _≤_, _<_}
+use Prim.Native.Nat.{ℕ, _*_, _-_, _/_, _%_, _≤_, _<_}
 use mathlib.Core.Path.{_≡_, refl, ap, sym, _∙_}
 use mathlib.Core.Bool.{Bool, true, false, cond, _&&_}
 use mathlib.Core.List.{List}
@@ -9,7 +9,7 @@ use borrow.Author.Tests.{eq-eqb, ne-eqb, lt-leb, leb-true}
 use lib.Dec.{eqb, leb}
 use lib.ListN.{length}
 use Rattle.dense.proofs.Places.{room}
-use Rattle.receptions.specs.Receptions.{receptionAt}
+use Rattle.receptions.specs.Receptions.{receptionBytes, receptionAt}
 use Rattle.inputs.specs.declared.Fault.{Fault}
 use Rattle.inputs.specs.declared.Fault.the-variants.{TornInput, TooMany, ClockSize}
 use Rattle.inputs.specs.declared.Check.{Check}
@@ -17,7 +17,7 @@ use Rattle.inputs.specs.declared.Check.the-variants.{Passed, Refused}
 use Rattle.inputs.specs.Faults.{numberOf, detailOf, orElse, unless, firstTo}
 use Rattle.inputs.specs.Inputs.{Inputs, sized, whole, checkReception, checkClock, checkInputs}
 use Rattle.entry.specs.Reply.{turnedAway, replied, reply}
-use Rattle.entry.specs.Cut.{filed, CutRepliesAlike}
+use Rattle.entry.specs.Cut.{filed, oneTooMany, CutRepliesAlike}
 use Rattle.entry.proofs.Replies.{made, bare}
 
 -- n is not written
@@ -26,33 +26,33 @@ without-n fault n h = ap (made (numberOf fault)) (bare (numberOf fault) (detailO
 
 -- ---- receptions
 module _ (clock alt ref : Option (List ℕ)) where
-  torn-reply : (rs : List ℕ) → (length rs % 64 ≡ 0 → ⊥) → reply (filed rs clock alt ref) ≡ turnedAway TornInput 0
+  torn-reply : (rs : List ℕ) → (length rs % receptionBytes ≡ 0 → ⊥) → reply (filed rs clock alt ref) ≡ turnedAway TornInput 0
   unfolding reply checkInputs whole
-  torn-reply rs h = rw (ne-eqb (length rs % 64) 0 h) (without-n TornInput (length rs / 64) (omega arith))
+  torn-reply rs h = rw (ne-eqb (length rs % receptionBytes) 0 h) (without-n TornInput (length rs / receptionBytes) (omega arith))
 
-  many-reply : (rs : List ℕ) → length rs % 64 ≡ 0 → 32 < length rs / 64 → reply (filed rs clock alt ref) ≡ turnedAway (cond (sized 16 alt && sized 8 ref) TooMany TornInput) 0
+  many-reply : (rs : List ℕ) → length rs % receptionBytes ≡ 0 → 32 < length rs / receptionBytes → reply (filed rs clock alt ref) ≡ turnedAway (cond (sized 16 alt && sized 8 ref) TooMany TornInput) 0
   unfolding reply checkInputs whole
-  many-reply rs h l = rw (eq-eqb (length rs % 64) 0 h, lt-leb (length rs / 64) 32 l) (go (sized 16 alt && sized 8 ref) _)
+  many-reply rs h l = rw (eq-eqb (length rs % receptionBytes) 0 h, lt-leb (length rs / receptionBytes) 32 l) (go (sized 16 alt && sized 8 ref) _)
     where
       go : (b : Bool) (I : Inputs) → replied (orElse (unless b TornInput) (Refused TooMany)) I ≡ turnedAway (cond b TooMany TornInput) 0
       go true I = without-n TooMany (I .n) (omega arith)
       go false I = without-n TornInput (I .n) (omega arith)
 
-  -- 2,111 bytes stand for every torn length
-  cut-torn : (rs cut : List ℕ) → (length rs % 64 ≡ 0 → ⊥) → length cut ≡ 2111 → reply (filed rs clock alt ref) ≡ reply (filed cut clock alt ref)
+  -- one byte less than 33 receptions stands for every torn length
+  cut-torn : (rs cut : List ℕ) → (length rs % receptionBytes ≡ 0 → ⊥) → length cut ≡ oneTooMany - 1 → reply (filed rs clock alt ref) ≡ reply (filed cut clock alt ref)
   cut-torn rs cut h e = torn-reply rs h ∙ sym (torn-reply cut (λ q. omega arith))
 
-  -- 2,112 bytes stand for every whole number of receptions above 32
-  cut-whole : (rs cut : List ℕ) → length rs % 64 ≡ 0 → 2112 ≤ length rs → length cut ≡ 2112 → reply (filed rs clock alt ref) ≡ reply (filed cut clock alt ref)
+  -- 33 receptions stand for every greater number
+  cut-whole : (rs cut : List ℕ) → length rs % receptionBytes ≡ 0 → oneTooMany ≤ length rs → length cut ≡ oneTooMany → reply (filed rs clock alt ref) ≡ reply (filed cut clock alt ref)
   cut-whole rs cut h l e = many-reply rs h (omega arith) ∙ sym (many-reply cut (omega arith) (omega arith))
 
 -- ---- the clock covariance
 module _ (rs : List ℕ) (alt ref : Option (List ℕ)) where
   abbrev n : ℕ
-  n = length rs / 64
+  n = length rs / receptionBytes
 
   abbrev torn : Check
-  torn = unless (eqb (length rs % 64) 0 && (sized 16 alt && sized 8 ref)) TornInput
+  torn = unless (eqb (length rs % receptionBytes) 0 && (sized 16 alt && sized 8 ref)) TornInput
 
   abbrev received : Check
   received = firstTo (checkReception (receptionAt rs)) n
@@ -86,11 +86,11 @@ module _ (rs : List ℕ) (alt ref : Option (List ℕ)) where
 module _ (rs : List ℕ) (clock : Option (List ℕ)) where
   torn-by : (alt ref : Option (List ℕ)) → sized 16 alt && sized 8 ref ≡ false → reply (filed rs clock alt ref) ≡ turnedAway TornInput 0
   unfolding reply checkInputs whole
-  torn-by alt ref e = rw e (go (eqb (length rs % 64) 0) _)
+  torn-by alt ref e = rw e (go (eqb (length rs % receptionBytes) 0) _)
     where
       go : (t : Bool) (later : Check) → replied (orElse (unless (t && false) TornInput) later) (filed rs clock alt ref) ≡ turnedAway TornInput 0
-      go true later = without-n TornInput (length rs / 64) (omega arith)
-      go false later = without-n TornInput (length rs / 64) (omega arith)
+      go true later = without-n TornInput (length rs / receptionBytes) (omega arith)
+      go false later = without-n TornInput (length rs / receptionBytes) (omega arith)
 
   off : (t : Bool) → t && false ≡ false
   off true = refl

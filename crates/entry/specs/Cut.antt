@@ -1,5 +1,5 @@
 -- What the program `solve` may leave unread: a file that is too long gets the reply of what it is cut to. A statement only: proofs/Cut.antt proves it.
-use Prim.Native.Nat.{ℕ, _/_, _%_, _≤_, _<_}
+use Prim.Native.Nat.{ℕ, _*_, _-_, _/_, _%_, _≤_, _<_}
 use mathlib.Core.Path.{_≡_}
 use mathlib.Core.List.{List}
 use mathlib.Core.Option.{Option, some}
@@ -20,14 +20,18 @@ filed rs clock altitude reference = record {
   reference = reference;
 }
 
+-- the bytes of 33 receptions: 4,356
+abbrev pub oneTooMany : ℕ
+oneTooMany = 33 * receptionBytes
+
 pub record CutRepliesAlike : Type 0 where
-  -- 2,111 bytes stand for every torn receptions.bin
+  -- one byte less than one reception too many stands for every torn receptions.bin
   pub torn :
-      (rs cut : List ℕ) (clock altitude reference : Option (List ℕ)) → (length rs % receptionBytes ≡ 0 → ⊥) → length cut ≡ 2_111
+      (rs cut : List ℕ) (clock altitude reference : Option (List ℕ)) → (length rs % receptionBytes ≡ 0 → ⊥) → length cut ≡ oneTooMany - 1
       → reply (filed rs clock altitude reference) ≡ reply (filed cut clock altitude reference)
-  -- 2,112, one reception too many, for every whole number of receptions above 32
+  -- one reception too many, for every whole number of receptions above 32
   pub whole :
-      (rs cut : List ℕ) (clock altitude reference : Option (List ℕ)) → length rs % receptionBytes ≡ 0 → 2_112 ≤ length rs → length cut ≡ 2_112
+      (rs cut : List ℕ) (clock altitude reference : Option (List ℕ)) → length rs % receptionBytes ≡ 0 → oneTooMany ≤ length rs → length cut ≡ oneTooMany
       → reply (filed rs clock altitude reference) ≡ reply (filed cut clock altitude reference)
   -- one byte too many for every longer clock.bin, altitude.bin and reference.bin
   pub clock :

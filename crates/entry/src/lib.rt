@@ -24,9 +24,6 @@ use rounds::Refusal;
 // The bytes of a record.
 const RECORD: usize = 176;
 
-// The bytes of a reception.
-const RECEPTION: usize = 64;
-
 // The most receptions that a problem has.
 const MOST: usize = 32;
 
@@ -186,8 +183,8 @@ pub fn solve(
     ensures output { λ _. ⌜ now (out .exit) ≡ reply.output (reply.lent (now (receptions .entry)) (now (clock .entry)) (now (altitude .entry)) (now (reference .entry)) present) (now (out .entry)) ⌝ }
     ensures demand { λ _. ⌜ (checkInputs (reply.lent (now (receptions .entry)) (now (clock .entry)) (now (altitude .entry)) (now (reference .entry)) present) ≡ passed → 176 ≤ length (now (out .entry)) → reply.Demanded (problemOf (reply.lent (now (receptions .entry)) (now (clock .entry)) (now (altitude .entry)) (now (reference .entry)) present)) (now (out .exit))) ⌝ }
 {
-    let n = receptions.len() / RECEPTION;
-    let whole = receptions.len() % RECEPTION == 0;
+    let n = receptions.len() / receptions::RECEPTION_BYTES;
+    let whole = receptions.len() % receptions::RECEPTION_BYTES == 0;
     let f = receptions::of_bytes(receptions, few(n));
     solve_fields(f, whole, n, clock, altitude, reference, present, out)
 }

@@ -7,7 +7,7 @@ use mathlib.Core.List.{List, []}
 use mathlib.Core.Option.{Option, none, some, Option·getD}
 use native.Mathlib.Omega.{arith}
 use native.Mathlib.Nat.{eq-or-lt-of-le}
-use borrow.Author.Tests.{ltb-true, le-leb}
+use borrow.Author.Tests.{le-leb}
 use lib.Arith.{digits-div, digits-mod}
 use lib.Dec.{eqb}
 use lib.IntN.{ℤ, pos}
@@ -30,7 +30,9 @@ use Rattle.inputs.specs.Domain.{goodTime, goodCoordinate, goodSite, good
 use Rattle.inputs.specs.Inputs.{entryAt, Inputs, inputsOf, ascends, checkReception, goodRowTo, checkRow, checkAltitude, checkInputs, metresOf, upperAt, altitudeOf, referenceOf, problemOf}
 use Rattle.inputs.specs.InDomain.{InDomain, Ascending, altitudeGood}
 use Rattle.inputs.proofs.Order.{both-of, good-of, or-of, few, passed-receptions, passed-clock, passed-altitude, is-covered, clock-of, first-of}
+use Rattle.receptions.specs.Identities.{before}
 use Rattle.receptions.proofs.Filling.{fill-at}
+use Rattle.receptions.proofs.Ordered.{identities-ordered}
 
 -- ---- a reception that passes
 module _ (from : ℕ → Reception) (i : ℕ) (e : checkReception from i ≡ Passed) where
@@ -122,9 +124,19 @@ module _ (n : ℕ) (from : ℕ → Reception) (g : Given) (b alt ref : List ℕ)
     passes : (i : ℕ) → i < n → checkReception from i ≡ Passed
     passes i h = first-of (checkReception from) n i (passed-receptions I e) h
 
-    pub ascending : Ascending from n
+    next-above : (i : ℕ) → suc i < n → before (from i .id) (from (suc i) .id) ≡ true
     unfolding ascends
-    ascending i h = ltb-true _ _ (above-before from (suc i) (passes (suc i) h))
+    next-above i h = above-before from (suc i) (passes (suc i) h)
+
+    -- each is above all before it, step by step
+    climbs : (i d : ℕ) → suc i + d < n → before (from i .id) (from (suc i + d) .id) ≡ true
+    climbs i zero h = let e : suc i + 0 ≡ suc i = omega arith in rw e (next-above i (omega (arith, h)))
+    climbs i (suc d) h =
+        let e : suc i + suc d ≡ suc (suc i + d) = omega arith in
+        rw e (identities-ordered .transitive (from i .id) (from (suc i + d) .id) (from (suc (suc i + d)) .id) (climbs i d (omega (arith, h))) (next-above (suc i + d) (omega (arith, h))))
+
+    pub ascending : Ascending from n
+    ascending i j l h = let e : suc i + (j - suc i) ≡ j = omega (arith, l) in rw e at (climbs i (j - suc i) (omega (arith, l, h)))
 
     sites-good : (k : ℕ) → k < 3 * n → goodCoordinate (getD (fillTo (wholes 96) (λ k. getD (from (k / 3) .«site_mm») (k % 3) (pos 0)) (3 * n)) k (pos 0)) ≡ true
     sites-good k h =

@@ -1,18 +1,20 @@
 -- One step of each loop and test, over variables. Assumes nothing.
 use Prim.Native.Nat.{ℕ, zero, suc, _+_, _*_, _-_, _<_, _≤_}
 use mathlib.Core.Path.{_≡_, refl, _∙_}
-use mathlib.Core.Bool.{Bool, true, _&&_}
+use mathlib.Core.Bool.{Bool, true, _&&_, _||_}
 use mathlib.Core.List.{List}
 use native.Mathlib.Omega.{arith}
 use native.Mathlib.Numerals.{add-one}
 use borrow.Author.Tests.{eqb-true}
-use lib.Dec.{ltb}
+use lib.Dec.{eqb, eqb·suc-zero}
 use lib.IntN.{ℤ}
 use lib.ListN.{set, length}
 use lib.Ieee.{Float}
 use Rattle.dense.specs.Entries.{nth}
 use Rattle.geo.specs.Geo.{fromMm}
+use Rattle.receptions.specs.declared.ObservationId.{ObservationId}
 use Rattle.receptions.specs.declared.Reception.{Reception}
+use Rattle.receptions.specs.Identities.{before}
 use Rattle.receptions.specs.declared.Fields.{Fields}
 use Rattle.receptions.specs.Receptions.{floats, receptionIn}
 use Rattle.inputs.specs.declared.Fault.the-variants.{Disorder, BadField}
@@ -26,16 +28,21 @@ pub first-next : (check : ℕ → Check) (k : ℕ) → orElse (firstTo check k) 
 unfolding firstTo
 first-next check k = rw add-one
 
+pub ascends-is : (id : ℕ → ObservationId) (i : ℕ) → (eqb i 0 || before (id (i - 1)) (id i)) ≡ ascends id i
+unfolding ascends
+ascends-is id zero = refl
+ascends-is id (suc i) = let e : suc i - 1 ≡ i = omega arith in rw (eqb·suc-zero i, e)
+
 pub check-next
     : (f : Fields) (i : ℕ) {r : Reception} {found found′ check : Check} {above : Bool}
     → found ≡ firstTo (checkReception (receptionIn f)) i
     → r ≡ receptionIn f i
-    → above ≡ ascends (λ k. receptionIn f k .id) i
+    → above ≡ (eqb i 0 || before (receptionIn f (i - 1) .id) (receptionIn f i .id))
     → check ≡ orElse (unless (goodReception r) (BadField i)) (unless above (Disorder i))
     → found′ ≡ orElse found check
     → found′ ≡ firstTo (checkReception (receptionIn f)) (i + 1)
 unfolding checkReception
-check-next f i e r a c h = h ∙ rw (e, c, r, a) (first-next (checkReception (receptionIn f)) i)
+check-next f i e r a c h = h ∙ rw (e, c, r, a, ascends-is (λ k. receptionIn f k .id) i) (first-next (checkReception (receptionIn f)) i)
 
 pub metres-next
     : (f : Fields) (i : ℕ) {site : List ℤ} {out out′ metres : List Float}
@@ -56,15 +63,6 @@ row-next clock n i j h =
     let e : j + 1 - i ≡ suc (j - i) = omega arith in
     let d : i + (j - i) ≡ j = omega arith in
     rw (e, d)
-
-pub ascends-zero : (id : ℕ → ℕ) (i : ℕ) → i ≡ 0 → true ≡ ascends id i
-unfolding ascends
-ascends-zero id i e = rw e
-
-pub ascends-next : (id : ℕ → ℕ) (i : ℕ) → (i ≡ 0 → ⊥) → ltb (id (i - 1)) (id i) ≡ ascends id i
-unfolding ascends
-ascends-next id zero h = absurd (h refl)
-ascends-next id (suc i) h = let e : suc i - 1 ≡ i = omega arith in rw e
 
 pub sized-there : (size : ℕ) (there : Bool) (b : List ℕ) → there ≡ true → sized size (given there b) ≡ true → length b ≡ size
 sized-there size there b t e = eqb-true (length b) size (rw t at e)

@@ -1,7 +1,7 @@
 -- What holds of every problem that was read: document 01's domain. Statements only.
 use mathlib.Core.Path.{_≡_}
 use mathlib.Core.Bool.{Bool, true}
-use Prim.Native.Nat.{ℕ, suc, _*_, _<_, _≤_}
+use Prim.Native.Nat.{ℕ, _*_, _<_, _≤_}
 use lib.IntN.{pos}
 use lib.ListN.{getD}
 use Rattle.dense.specs.Entries.{nth, at}
@@ -9,6 +9,7 @@ use Rattle.problem.specs.declared.Altitude.{Altitude}
 use Rattle.problem.specs.declared.Altitude.the-variants.{None, Barometric, Gnss}
 use Rattle.problem.specs.declared.Problem.{Problem}
 use Rattle.receptions.specs.declared.Reception.{Reception}
+use Rattle.receptions.specs.Identities.{before}
 use Rattle.inputs.specs.Domain.{goodTime, goodCoordinate, goodZ, goodNoise, goodEntry, goodMetres}
 
 abbrev pub altitudeGood : Altitude → Bool
@@ -25,6 +26,6 @@ pub record InDomain (p : Problem) : Type 0 where
   pub clock : (i j : ℕ) → i ≤ j → j < p .n → goodEntry i j (at (p .«clock_m2») (p .n) i j) ≡ true
   pub altitude : altitudeGood (p .altitude) ≡ true
 
--- "identities strictly ascending": of the first n receptions
+-- "identities strictly ascending": of any two of the first n receptions the earlier comes before the later (`IdentitiesOrdered` of receptions: so no two have one identity)
 abbrev pub Ascending : (ℕ → Reception) → ℕ → Type 0
-Ascending at n = (i : ℕ) → suc i < n → at i .id < at (suc i) .id
+Ascending at n = (i j : ℕ) → i < j → j < n → before (at i .id) (at j .id) ≡ true

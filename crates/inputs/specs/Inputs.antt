@@ -3,7 +3,7 @@ use mathlib.Core.Bool.{Bool, true, cond, _&&_}
 use mathlib.Core.List.{List, []}
 use mathlib.Core.Option.{Option, none, some, Option·getD}
 use Prim.Native.Nat.{ℕ, zero, suc, _+_, _*_, _-_, _/_, _%_}
-use lib.Dec.{leb, ltb, eqb}
+use lib.Dec.{leb, eqb}
 use lib.IntN.{ℤ, pos}
 use lib.ListN.{length}
 use lib.Ieee.{Float}
@@ -14,7 +14,9 @@ use Rattle.words.specs.Words.{u64At, i64At, f64At}
 use Rattle.problem.specs.declared.Altitude.{Altitude}
 use Rattle.problem.specs.declared.Altitude.the-variants.{None, Barometric, Gnss}
 use Rattle.problem.specs.declared.Problem.{Problem}
+use Rattle.receptions.specs.declared.ObservationId.{ObservationId}
 use Rattle.receptions.specs.declared.Reception.{Reception}
+use Rattle.receptions.specs.Identities.{before}
 use Rattle.receptions.specs.Receptions.{fillTo, floats, fieldsOf}
 use Rattle.inputs.specs.declared.Fault.the-variants.{TornInput, TooMany, Disorder, BadField, ClockSize, Uncovered}
 use Rattle.inputs.specs.declared.Check.{Check}
@@ -46,14 +48,14 @@ abbrev pub sized : ℕ → Option (List ℕ) → Bool
 sized size none = true
 sized size (some bytes) = eqb (length bytes) size
 
--- 15: "receptions not a multiple of 64, altitude not 16, reference not 8 bytes"
+-- 15: receptions not a multiple of 132 ("the torn-input test uses 132"), "altitude not 16, reference not 8 bytes"
 unfoldable pub whole : Inputs → Bool
 whole I = I .whole && (sized 16 (I .altitude) && sized 8 (I .reference))
 
 -- 11: "identity not above the one before"
-unfoldable pub ascends : (ℕ → ℕ) → ℕ → Bool
+unfoldable pub ascends : (ℕ → ObservationId) → ℕ → Bool
 ascends id zero = true
-ascends id (suc i) = ltb (id i) (id (suc i))
+ascends id (suc i) = before (id i) (id (suc i))
 
 -- "receptions one by one, 12 before 11": reception i
 unfoldable pub checkReception : (ℕ → Reception) → ℕ → Check

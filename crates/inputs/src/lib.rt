@@ -3,12 +3,14 @@ mod domain;
 mod files;
 
 ghost use mathlib.Core.Path.{_≡_};
-ghost use mathlib.Core.Bool.{true};
+ghost use mathlib.Core.Bool.{true, _||_};
 ghost use mathlib.Core.List.{[], _∷_};
 ghost use Prim.Native.Nat.{_+_, _*_, _-_, _<_, _≤_};
+ghost use lib.Dec.{eqb};
 ghost use lib.IntN.{pos};
 ghost use lib.ListN.{length, set, getD};
 ghost use Rattle.dense.specs.Entries.{nth};
+ghost use Rattle.receptions.specs.Identities.{before};
 ghost use Rattle.receptions.specs.Receptions.{fillTo, floats, fieldsOf, receptionIn};
 ghost use Rattle.inputs.specs.declared.Fault.the-variants.{Disorder, BadField};
 ghost use Rattle.inputs.specs.Faults as faults;
@@ -18,6 +20,7 @@ ghost use Rattle.inputs.specs.InDomain.{InDomain, Ascending};
 use problem::Altitude;
 use problem::Problem;
 use receptions::Fields;
+use receptions::ObservationId;
 use receptions::Reception;
 
 // What is wrong with the inputs. A bad field's number is the place of its reception, 100 and the
@@ -100,15 +103,24 @@ fn site_in(mm: &[i64; 96], i: usize) -> [i64; 3]
     [mm[at], mm[at + 1], mm[at + 2]]
 }
 
-// Whether the identity of reception i is above the one before.
-fn ascends(id: &[u64; 32], i: usize) -> bool
-    requires { ⌜ i < 32 ⌝ }
-    ensures { λ r. ⌜ r ≡ inputs.ascends (λ k. getD (now (id .entry)) k 0) i ⌝ }
+// The place before i, and 0 before 0.
+fn place_before(i: usize) -> usize
+    ensures { λ r. ⌜ r ≡ i - 1 ⌝ }
+{
+    if i == 0 {
+        return 0;
+    }
+    i - 1
+}
+
+// Whether the identity of reception i is above the last.
+fn ascends(last: ObservationId, id: ObservationId, i: usize) -> bool
+    ensures { λ r. ⌜ r ≡ (eqb i 0 || before last id) ⌝ }
 {
     if i == 0 {
         return true;
     }
-    id[i - 1] < id[i]
+    receptions::before(last, id)
 }
 
 // Reception i, whose identity is above the one before or not.
@@ -128,16 +140,19 @@ fn check_receptions(f: Fields, n: usize) -> Check
 {
     let mut found = Check::Passed;
     for i in 0..n {
+        let k = place_before(i);
+        let last = f.id[k];
+        let id = f.id[i];
+        let above = ascends(last, id, i);
         let site = site_in(&f.site_mm, i);
         let r = Reception {
-            id: f.id[i],
+            id,
             time: f.time[i],
             site_mm: site,
             z: f.z[i],
             noise_m2: f.noise_m2[i],
             filler: f.filler[i],
         };
-        let above = ascends(&f.id, i);
         found = or_else(found, check_reception(r, above, i));
     }
     found

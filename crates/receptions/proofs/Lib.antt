@@ -1,3 +1,5 @@
--- The laws of filled arrays and of receptions in them, for this crate and those above it.
+-- The laws of filled arrays, of receptions in them, and of the order of identities, for this crate and those above it.
 pub mod Filling
 pub mod Unpacked
+pub mod Ordered
+pub mod Bytes

@@ -11,7 +11,7 @@ use lib.Ieee.{nan}
 use lib.Seq.{getD-set-same, getD-set-other}
 use Rattle.receptions.specs.declared.Reception.{Reception}
 use Rattle.receptions.specs.declared.Fields.{Fields}
-use Rattle.receptions.specs.Receptions.{none, listedAt, wholes, floats, fieldsOf, receptionIn}
+use Rattle.receptions.specs.Receptions.{blankId, noId, none, listedAt, wholes, floats, fieldsOf, receptionIn}
 use Rattle.receptions.proofs.Filling.{fill-next, fill-three, fill-at, fill-same}
 
 -- a list of 32 begins with the first i receptions
@@ -42,7 +42,7 @@ unfolding fieldsOf
 fields-next at i {f} {r} e q =
     ap (λ g. stored g i r) e ∙ ap (stored (fieldsOf at i) i) q
     ∙ rw (
-      fill-next (replicate 32 0) (λ i. at i .id) i,
+      fill-next (replicate 32 blankId) (λ i. at i .id) i,
       fill-next (wholes 32) (λ i. at i .time) i,
       fill-three (wholes 96) (λ i a. getD (at i .«site_mm») a (pos 0)) i,
       fill-next (floats 32) (λ i. at i .z) i,
@@ -73,7 +73,7 @@ pub fields-alike : (p q : ℕ → Reception) (n : ℕ) → ((i : ℕ) → i < n 
 unfolding fieldsOf
 fields-alike p q n alike =
     rw (
-      fill-same (replicate 32 0) (λ i. p i .id) (λ i. q i .id) n (λ i l. alike i l .0),
+      fill-same (replicate 32 blankId) (λ i. p i .id) (λ i. q i .id) n (λ i l. alike i l .0),
       fill-same (wholes 32) (λ i. p i .time) (λ i. q i .time) n (λ i l. alike i l .1),
       fill-same (wholes 96) (λ k. getD (p (k / 3) .«site_mm») (k % 3) (pos 0)) (λ k. getD (q (k / 3) .«site_mm») (k % 3) (pos 0)) (3 * n)
           (λ k l. coordinate-alike (p (k / 3)) (q (k / 3)) (alike (k / 3) (omega arith)) (k % 3) (omega arith)),
@@ -89,7 +89,7 @@ fields-same p q n same = fields-alike p q n (λ i l. subst (Alike (p i)) (same i
 pub read-back : (at : ℕ → Reception) (n i : ℕ) → n ≤ 32 → i < n → Alike (receptionIn (fieldsOf at n) i) (at i)
 unfolding fieldsOf receptionIn
 read-back at n i few h = (
-  fill-at (replicate 32 0) (λ i. at i .id) n i 0 h (rw length-replicate (omega arith)),
+  fill-at (replicate 32 blankId) (λ i. at i .id) n i noId h (rw length-replicate (omega arith)),
   fill-at (wholes 32) (λ i. at i .time) n i (pos 0) h (rw length-replicate (omega arith)),
   coordinate (3 * i) 0 (omega arith) (omega arith) (omega arith),
   coordinate (3 * i + 1) 1 (omega arith) (omega arith) (omega arith),

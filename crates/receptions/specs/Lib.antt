@@ -1,1 +1,3 @@
 pub mod Receptions
+pub mod Identities
+pub mod Meaning

@@ -1,30 +1,46 @@
--- The receptions of a solve: those of receptions.bin, those of a caller's list, and as arrays by field. Document 01, 'The fix: 176 bytes' and 'Forms for parts of the code'. Definitions only.
+-- The receptions of a solve: those of receptions.bin, those of a caller's list, and as arrays by field. Document 01, 'The fix: 176 bytes' and 'Forms for parts of the code';
+-- document 02, item 6. Definitions only.
 use mathlib.Core.List.{List, [], _∷_}
 use Prim.Native.Nat.{ℕ, zero, suc, _+_, _*_, _/_, _%_}
 use lib.IntN.{ℤ, pos}
-use lib.ListN.{getD, set, replicate}
+use lib.ListN.{getD, set, replicate, take, drop}
 use lib.Ieee.{Float, nan}
 use Rattle.binary64.specs.Steps.{nought}
 use Rattle.dense.specs.Entries.{nth}
-use Rattle.words.specs.Words.{u64At, i64At, f64At}
+use Rattle.words.specs.Words.{u32At, u64At, i64At, f64At}
+use Rattle.receptions.specs.declared.ObservationId.{ObservationId}
 use Rattle.receptions.specs.declared.Reception.{Reception}
 use Rattle.receptions.specs.declared.Fields.{Fields}
 
--- "`receptions.bin`, 64 bytes each"
+-- "in place of the u64, which makes 132 bytes"
 abbrev pub receptionBytes : ℕ
-receptionBytes = 64
+receptionBytes = 132
 
--- "identity u64, time i64 ps, site three i64 mm, z f64 (metres of light), noise f64 (m²), eight zero bytes": reception i
+-- the 32 bytes from byte k on
+unfoldable pub partAt : List ℕ → ℕ → List ℕ
+partAt bytes k = take 32 (drop k bytes)
+
+-- "the whole `ObservationId`: receiver 32 bytes, epoch u32, timestamp u64, message 32 bytes"
+unfoldable pub idAt : List ℕ → ℕ → ObservationId
+idAt bytes at =
+    record {
+      receiver = partAt bytes at;
+      epoch = u32At bytes (at + 32);
+      timestamp = u64At bytes (at + 36);
+      message = partAt bytes (at + 44);
+    }
+
+-- the identity, then "time i64 ps, site three i64 mm, z f64 (metres of light), noise f64 (m²), eight zero bytes": reception i
 unfoldable pub receptionAt : List ℕ → ℕ → Reception
 receptionAt bytes i =
     let at = receptionBytes * i in
     record {
-      id = u64At bytes at;
-      time = i64At bytes (at + 8);
-      «site_mm» = i64At bytes (at + 16) ∷ i64At bytes (at + 24) ∷ i64At bytes (at + 32) ∷ [];
-      z = f64At bytes (at + 40);
-      «noise_m2» = f64At bytes (at + 48);
-      filler = u64At bytes (at + 56);
+      id = idAt bytes at;
+      time = i64At bytes (at + 76);
+      «site_mm» = i64At bytes (at + 84) ∷ i64At bytes (at + 92) ∷ i64At bytes (at + 100) ∷ [];
+      z = f64At bytes (at + 108);
+      «noise_m2» = f64At bytes (at + 116);
+      filler = u64At bytes (at + 124);
     }
 
 -- arrays of zeros
@@ -34,9 +50,15 @@ wholes size = replicate size (pos 0)
 abbrev pub floats : ℕ → List Float
 floats size = replicate size nought
 
+abbrev pub blankId : ObservationId
+blankId = record { receiver = replicate 32 0; epoch = 0; timestamp = 0; message = replicate 32 0 }
+
 -- what stands behind a list, and is never read
+abbrev pub noId : ObservationId
+noId = record { receiver = []; epoch = 0; timestamp = 0; message = [] }
+
 abbrev pub none : Reception
-none = record { id = 0; time = pos 0; «site_mm» = []; z = nan; «noise_m2» = nan; filler = 0 }
+none = record { id = noId; time = pos 0; «site_mm» = []; z = nan; «noise_m2» = nan; filler = 0 }
 
 -- "a thin entry takes the caller's own list of reception records": reception i
 abbrev pub listedAt : List Reception → ℕ → Reception
@@ -52,7 +74,7 @@ unfoldable pub fieldsOf : (ℕ → Reception) → ℕ → Fields
 unfolding fillTo
 fieldsOf at n =
     record {
-      id = fillTo (replicate 32 0) (λ i. at i .id) n;
+      id = fillTo (replicate 32 blankId) (λ i. at i .id) n;
       time = fillTo (wholes 32) (λ i. at i .time) n;
       «site_mm» = fillTo (wholes 96) (λ k. getD (at (k / 3) .«site_mm») (k % 3) (pos 0)) (3 * n);
       z = fillTo (floats 32) (λ i. at i .z) n;
@@ -64,7 +86,7 @@ fieldsOf at n =
 unfoldable pub receptionIn : Fields → ℕ → Reception
 receptionIn f i =
     record {
-      id = getD (f .id) i 0;
+      id = getD (f .id) i noId;
       time = getD (f .time) i (pos 0);
       «site_mm» = getD (f .«site_mm») (3 * i) (pos 0) ∷ getD (f .«site_mm») (3 * i + 1) (pos 0) ∷ getD (f .«site_mm») (3 * i + 2) (pos 0) ∷ [];
       z = nth (f .z) i;

@@ -1,15 +1,27 @@
 // Receptions, unpacked into arrays by field: those of receptions.bin, and those of a caller's list.
+mod identity;
+
+pub use identity::before;
 ghost use mathlib.Core.Path.{_≡_};
 ghost use Prim.Native.Nat.{_+_, _*_, _<_, _≤_};
 ghost use lib.IntN.{pos};
 ghost use lib.ListN.{length, set, getD};
-ghost use Rattle.receptions.specs.Receptions.{receptionBytes, receptionAt, listedAt, fieldsOf};
+ghost use Rattle.receptions.specs.Receptions.{receptionBytes, blankId, partAt, idAt, receptionAt, listedAt, fieldsOf};
 
-// A reception as its 64 bytes have it: `Item` of solve.rs, and eight bytes that are to be zero. A
-// caller's list and receptions.bin have one layout.
+// `ObservationId` of the source: which message, at which receiver.
+#[repr(C)]
+pub struct ObservationId {
+    pub receiver: [u8; 32],
+    pub epoch: u32,
+    pub timestamp: u64,
+    pub message: [u8; 32],
+}
+
+// A reception as its 132 bytes have it: `Item` of solve.rs, and eight bytes that are to be zero. A
+// caller's list is laid out as C lays it out: 136 bytes a reception, four of them after the epoch.
 #[repr(C)]
 pub struct Reception {
-    pub id: u64,
+    pub id: ObservationId,
     pub time: i64,
     pub site_mm: [i64; 3],
     pub z: f64,
@@ -19,7 +31,7 @@ pub struct Reception {
 
 // The receptions by field, the three coordinates of a site one after the other, and zeros past them.
 pub struct Fields {
-    pub id: [u64; 32],
+    pub id: [ObservationId; 32],
     pub time: [i64; 32],
     pub site_mm: [i64; 96],
     pub z: [f64; 32],
@@ -27,16 +39,31 @@ pub struct Fields {
     pub filler: [u64; 32],
 }
 
-// The bytes of a reception, by document 01.
-const RECEPTION: usize = 64;
+// The bytes of a reception in receptions.bin, by document 02.
+pub const RECEPTION_BYTES: usize = 132;
+
+// An identity of zeros.
+fn blank_id() -> ObservationId
+    ensures { λ r. ⌜ r ≡ blankId ⌝ }
+{
+    let receiver = [0u8; 32];
+    let message = [0u8; 32];
+    ObservationId {
+        receiver,
+        epoch: 0,
+        timestamp: 0,
+        message,
+    }
+}
 
 // Room for every reception.
 fn blank() -> [Reception; 32]
     ensures { λ r. ⌜ length r ≡ 32 ⌝ }
 {
+    let id = blank_id();
     let site = [0i64; 3];
     let r = Reception {
-        id: 0,
+        id,
         time: 0,
         site_mm: site,
         z: 0.0,
@@ -61,7 +88,8 @@ fn by_field(list: [Reception; 32], n: usize) -> Fields
     requires { ⌜ n ≤ 32 ⌝ }
     ensures { λ r. ⌜ r ≡ fieldsOf (listedAt list) n ⌝ }
 {
-    let mut id = [0u64; 32];
+    let none = blank_id();
+    let mut id = [none; 32];
     let mut time = [0i64; 32];
     let mut site_mm = [0i64; 96];
     let mut z = [0.0; 32];
@@ -69,9 +97,10 @@ fn by_field(list: [Reception; 32], n: usize) -> Fields
     let mut filler = [0u64; 32];
     for i in 0..n {
         let r = list[i];
+        let who = r.id;
         let t = r.time;
         let site = r.site_mm;
-        id[i] = r.id;
+        id[i] = who;
         time[i] = t;
         put_site(&mut site_mm, i, site);
         z[i] = r.z;
@@ -88,22 +117,49 @@ fn by_field(list: [Reception; 32], n: usize) -> Fields
     }
 }
 
+// 32 bytes from byte k on.
+fn part_at(s: &[u8], k: usize) -> [u8; 32]
+    requires { ⌜ k + 32 ≤ length (now s) ⌝ }
+    ensures { λ r. ⌜ r ≡ partAt (now (s .entry)) k ⌝ }
+{
+    let mut out = [0u8; 32];
+    for j in 0..32 {
+        out[j] = s[k + j];
+    }
+    out
+}
+
+fn id_at(receptions: &[u8], at: usize) -> ObservationId
+    requires { ⌜ at + 76 ≤ length (now receptions) ⌝ }
+    ensures { λ r. ⌜ r ≡ idAt (now (receptions .entry)) at ⌝ }
+{
+    let receiver = part_at(receptions, at);
+    let message = part_at(receptions, at + 44);
+    ObservationId {
+        receiver,
+        epoch: words::u32_at(receptions, at + 32),
+        timestamp: words::u64_at(receptions, at + 36),
+        message,
+    }
+}
+
 fn reception_at(receptions: &[u8], i: usize) -> Reception
     requires { ⌜ receptionBytes * i + receptionBytes ≤ length (now receptions) ⌝ }
     ensures { λ r. ⌜ r ≡ receptionAt (now (receptions .entry)) i ⌝ }
 {
-    let at = RECEPTION * i;
-    let x = words::i64_at(receptions, at + 16);
-    let y = words::i64_at(receptions, at + 24);
-    let z = words::i64_at(receptions, at + 32);
+    let at = RECEPTION_BYTES * i;
+    let id = id_at(receptions, at);
+    let x = words::i64_at(receptions, at + 84);
+    let y = words::i64_at(receptions, at + 92);
+    let z = words::i64_at(receptions, at + 100);
     let site = [x, y, z];
     Reception {
-        id: words::u64_at(receptions, at),
-        time: words::i64_at(receptions, at + 8),
+        id,
+        time: words::i64_at(receptions, at + 76),
         site_mm: site,
-        z: words::f64_at(receptions, at + 40),
-        noise_m2: words::f64_at(receptions, at + 48),
-        filler: words::u64_at(receptions, at + 56),
+        z: words::f64_at(receptions, at + 108),
+        noise_m2: words::f64_at(receptions, at + 116),
+        filler: words::u64_at(receptions, at + 124),
     }
 }
 

@@ -4,13 +4,19 @@
 //
 // A file that is too long is cut to a length that gets the same answer (crates/entry/proofs/Cut.antt).
 // For clock.bin, altitude.bin and reference.bin that is one byte more than the longest that is taken. Of
-// receptions.bin 2,112 bytes, one reception too many, stand for every longer whole number of receptions,
-// and 2,111 for every torn one.
+// receptions.bin 4,356 bytes, one reception too many, stand for every longer whole number of receptions,
+// and 4,355 for every torn one.
 ghost use Prim.Native.Nat.{_≤_};
 ghost use mathlib.Core.Path.{_≡_};
 ghost use Rattle.io.specs.Counts.{Counts};
 use libc::ENOENT;
 use libc::STDOUT_FILENO;
+
+// The bytes of 33 receptions.
+const ONE_TOO_MANY: usize = 33 * receptions::RECEPTION_BYTES;
+
+// How many bytes are read on at a time.
+const BLOCK: usize = 4096;
 
 // In the place of a descriptor, where a file is absent.
 const ABSENT: i32 = -1;
@@ -76,20 +82,24 @@ fn read_file(path: &[u8], buf: &mut [u8]) -> Part
     }
 }
 
-// Reads on, by at most 4,096 bytes.
-fn some_more(fd: i32) -> usize {
-    let mut buf = io::buffer();
+// Reads on, by a block or up to the end.
+fn some_more(fd: i32) -> usize
+    ensures { λ r. ⌜ r ≤ 4096 ⌝ }
+{
+    let mut buf = [0u8; BLOCK];
     io::read_full(fd, &mut buf)
 }
 
-// Whether what is left of the file is a whole number of receptions. Nothing says that a file ends, so the
-// turns are counted down.
+// Whether what is left of the file is a whole number of receptions. A block is none, so the bytes that are
+// over are carried to the next. Nothing says that a file ends, so the turns are counted down.
 fn rest_is_whole(fd: i32) -> bool {
     let mut turns = u64::MAX;
+    let mut over = 0usize;
     while turns > 0 {
         let n = some_more(fd);
-        if n < 4096 {
-            return n % 64 == 0;
+        over = (over + n) % receptions::RECEPTION_BYTES;
+        if n < BLOCK {
+            return over == 0;
         }
         turns -= 1;
     }
@@ -101,7 +111,7 @@ fn rest_is_whole(fd: i32) -> bool {
 fn taken(n: usize, whole: bool) -> usize
     ensures { λ r. ⌜ r ≤ n ⌝ }
 {
-    if n < 2112 {
+    if n < ONE_TOO_MANY {
         return n;
     }
     if whole {
@@ -147,7 +157,7 @@ fn all(a: bool, b: bool, c: bool, d: bool) -> bool {
 }
 
 fn main() {
-    let mut rs = [0u8; 2112];
+    let mut rs = [0u8; ONE_TOO_MANY];
     let mut cs = [0u8; 8193];
     let mut al = [0u8; 17];
     let mut re = [0u8; 9];

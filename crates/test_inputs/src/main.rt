@@ -1,4 +1,4 @@
-// Reads cases of the solve's inputs, and compares what `inputs` answers with what document 01 says,
+// Reads cases of the solve's inputs, and compares what `inputs` answers with what documents 01 and 02 say,
 // written beside each case by tools/input_cases. A case on standard input is eight words and the
 // bytes of the files: the four lengths (receptions, clock, altitude, reference; 2^64 - 1 for a file
 // that is absent), then number and detail of the refusal, or 0 and 0 and the number of receptions.
@@ -77,8 +77,8 @@ fn answered(
     altitude: &[u8],
     reference: &[u8],
 ) -> Outcome {
-    let n = receptions.len() / 64;
-    let whole = receptions.len() % 64 == 0;
+    let n = receptions.len() / receptions::RECEPTION_BYTES;
+    let whole = receptions.len() % receptions::RECEPTION_BYTES == 0;
     let f = unpacked(receptions, n);
     let check = inputs::check_inputs(f, whole, n, g, clock, altitude, reference);
     match check {

@@ -17,9 +17,12 @@ Inv-loop n list id₀ time₀ site-mm₀ z₀ noise-m2₀ filler₀ i₀ id time
 abbrev μ-loop : tie.MeasureT-loop
 μ-loop n list id₀ time₀ site-mm₀ z₀ noise-m2₀ filler₀ i₀ id time site-mm z noise-m2 filler i = n - i
 
+blank-id-requires : tie.Need-blank-id-requires Inv-loop μ-loop
+blank-id-requires c κs = search needs
+
 loop-holds : tie.Need-loop-holds Inv-loop μ-loop
 unfolding fieldsOf fillTo
-loop-holds c = (omega arith, refl)
+loop-holds c = (omega arith, rw (c .blank-id .ensures))
 
 mul-r : tie.Need-mul-r Inv-loop μ-loop
 mul-r c = search needs
@@ -30,8 +33,8 @@ array-copy-out-r c = search needs
 mul-id : tie.Need-mul-id Inv-loop μ-loop
 mul-id c = search needs
 
-array-write-id : tie.Need-array-write-id Inv-loop μ-loop
-array-write-id c = search needs
+array-set-from-id : tie.Need-array-set-from-id Inv-loop μ-loop
+array-set-from-id c = search needs
 
 mul-time : tie.Need-mul-time Inv-loop μ-loop
 mul-time c = search needs
@@ -68,8 +71,8 @@ loop-less c = omega arith
 
 loop-again : tie.Need-loop-again Inv-loop μ-loop
 loop-again c =
-    let turn = c .before .before .before .before .before .before in
-    let list = turn .before .args .t1 in
+    let turn = c .before .before .before .before .before .before .before in
+    let list = turn .before .before .args .t1 in
     let i = turn .loop .i in (
       omega arith,
       rw (toZ-ofZ w64 (listedAt list i .time) (record { sfits = c .before .before .before .struct-told .given .1 .0 .1 }), c .put-site .ensures)
@@ -78,7 +81,7 @@ loop-again c =
 
 returns : tie.Need-returns Inv-loop μ-loop
 returns c =
-    let e : c .before .loop .i ≡ c .before .before .args .n = omega arith in
+    let e : c .before .loop .i ≡ c .before .before .before .args .n = omega arith in
     rw e at (c .before .loop .inv .1)
 
 pub by-field-spec : {M : Type 1} → statement M
@@ -87,11 +90,12 @@ by-field-spec =
     (tie.spec
     Inv-loop
     μ-loop
+    blank-id-requires
     loop-holds
     mul-r
     array-copy-out-r
     mul-id
-    array-write-id
+    array-set-from-id
     mul-time
     array-set-from-time
     put-site-requires

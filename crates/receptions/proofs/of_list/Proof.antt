@@ -1,5 +1,5 @@
 -- `receptions::of_list` meets its contract: a walk of its MIR, by hand. In the loop the local list lies in memory element by element, and each turn copies one struct whole from the
--- caller's list to it, 64 i bytes past each pointer. The loop's state is the index and the local list, which begins with the receptions so far (`begins-next`). Then the list is whole
+-- caller's list to it, 136 i bytes past each pointer. The loop's state is the index and the local list, which begins with the receptions so far (`begins-next`). Then the list is whole
 -- again, and `by_field` is called with it. Assumes nothing.
 use mathlib.Core.Path.{_≡_, refl, sym, subst, _∙_}
 use mathlib.Core.List.{List, [], _∷_}
@@ -72,6 +72,10 @@ use Rattle.receptions.proofs.of_list.Code.Mir as mc
 
 abbrev R : RattleType
 R = T.the-row
+
+-- the bytes of a reception in memory
+abbrev size : ℕ
+size = 136
 
 -- a list of 32
 abbrev LR : RattleType
@@ -237,7 +241,7 @@ module _ {M : Type 1} (𝓤 : URA M) (H : Heap 𝓤) (A : Atoms 𝓤) (W : Given
           -- the caller's element i, which is copied whole
           assigns ! (bin ! (load ! (from ! (stop !)) (look ! 16 refl)) (lit ! tt) scaled) (from ! (stop !)) (init ! 10 refl (tt, scaled)) $
           assigns ! (bin ! (load ! (from ! (fld ! refl (stop !))) (look-in ! 22 (sub ! 0 refl (whole !)))) (load ! (from ! (stop !)) (look ! 10 refl)) tt) (from ! (stop !)) (init ! 8 refl (tt, tt)) $
-          rewrite ! 8 (λ (p : ℕ). ‵ (fat fullShare tyPtr l₈ 0 (vptr (s .ptr .0) p))) (sym (place-is 64 (s .ptr .1) i)) refl $
+          rewrite ! 8 (λ (p : ℕ). ‵ (fat fullShare tyPtr l₈ 0 (vptr (s .ptr .0) p))) (sym (place-is size (s .ptr .1) i)) refl $
           move ! (27 ∷ []) $ use1 W (‵ Own ⊛ ‵ Own) (shr-slice-copy 𝓤 H A W (named 0) κ R .twice s (v ∷ [])) $ split ! $
           fsplit ! $ move ! (1 ∷ []) $ fsplit ! $ move ! (30 ∷ []) $ split ! $ move ! (3 ∷ 0 ∷ []) $
           looks-slice ! tt R (Is R) (shows 𝓤 H A R) vals (LL.tells T.the-type T′.the-laws) (LL.copy T.the-type T′.the-copy 𝓤 H A W) xs (s .ptr .0) (s .ptr .1) (λ q′.
@@ -249,7 +253,7 @@ module _ {M : Type 1} (𝓤 : URA M) (H : Heap 𝓤) (A : Atoms 𝓤) (W : Given
           assigns ! (bin ! (load ! (from ! (stop !)) (look ! 21 refl)) (lit ! tt) scaled) (from ! (stop !)) (init ! 9 refl (tt, scaled)) $
           assigns ! (addr ! (from ! (stop !))) (from ! (stop !)) (init ! 7 refl (tt, tt)) $
           assigns ! (bin ! (load ! (from ! (stop !)) (look ! 7 refl)) (load ! (from ! (stop !)) (look ! 9 refl)) tt) (from ! (stop !)) (init ! 5 refl (tt, tt)) $
-          rewrite ! 5 (λ (p : ℕ). ‵ (fat fullShare tyPtr l₁₂ 0 (vptr l₃ p))) (sym (place-is 64 0 i)) refl $
+          rewrite ! 5 (λ (p : ℕ). ‵ (fat fullShare tyPtr l₁₂ 0 (vptr l₃ p))) (sym (place-is size 0 i)) refl $
           move ! (23 ∷ []) $ elem-out ! R (Is R) (shows 𝓤 H A R) vals (LL.tells T.the-type T′.the-laws) fullShare ys i none l₃ 0 below (λ _.
           -- [the local list's element i; what it owns; the others; the token; the fractured borrow; two facts; what the list owns; _12; …]
           assigns ! (of-opd ! (load ! (from ! (stop !)) (look ! 14 refl))) (from ! (hop ! (look ! 8 refl) (stop !))) (store-raw ! 0 refl (typed g)) $
@@ -274,8 +278,8 @@ module _ {M : Type 1} (𝓤 : URA M) (H : Heap 𝓤) (A : Atoms 𝓤) (W : Given
           below : i < length ys
           below = subst (λ (m : ℕ). i < m) (sym (t .1 .1 .1 .0)) small
 
-          scaled : Fits w64 (i * 64)
-          scaled = scaled-fits i 32 64 small (lit< tt)
+          scaled : Fits w64 (i * size)
+          scaled = scaled-fits i 32 size small (lit< tt)
 
           more-fits : Fits w64 (i + 1)
           more-fits = record { fits = omega (arith, gn, less) }

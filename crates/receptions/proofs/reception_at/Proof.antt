@@ -9,6 +9,9 @@ use Rattle.receptions.proofs.reception_at.Tie as tie
 mul-at : tie.Need-mul-at
 mul-at c = search needs
 
+id-at-requires : tie.Need-id-at-requires
+id-at-requires c κs = search needs
+
 add-i64-at : tie.Need-add-i64-at
 add-i64-at c = search needs
 
@@ -26,9 +29,6 @@ add-i64-at-3 c = search needs
 
 i64-at-requires-3 : tie.Need-i64-at-requires-3
 i64-at-requires-3 c κs = search needs
-
-u64-at-requires : tie.Need-u64-at-requires
-u64-at-requires c κs = search needs
 
 add-i64-at-4 : tie.Need-add-i64-at-4
 add-i64-at-4 c = search needs
@@ -51,14 +51,14 @@ f64-at-requires-2 c κs = search needs
 add-u64-at : tie.Need-add-u64-at
 add-u64-at c = search needs
 
-u64-at-requires-2 : tie.Need-u64-at-requires-2
-u64-at-requires-2 c κs = search needs
+u64-at-requires : tie.Need-u64-at-requires
+u64-at-requires c κs = search needs
 
 returns : tie.Need-returns
 unfolding receptionAt
 returns c =
     let time = c .before .before .before in
-    let z = time .before .before in
+    let z = time .before in
     let y = z .before in
     let x = y .before in
     rw (
@@ -66,14 +66,14 @@ returns c =
       toZ-ofZ w64 (y .i64-at2 .result) (record { sfits = y .i64-at2 .ok }),
       toZ-ofZ w64 (z .i64-at3 .result) (record { sfits = z .i64-at3 .ok }),
       toZ-ofZ w64 (time .i64-at4 .result) (record { sfits = time .i64-at4 .ok }),
+      x .before .id-at .ensures,
       x .i64-at .ensures,
       y .i64-at2 .ensures,
       z .i64-at3 .ensures,
-      time .before .u64-at .ensures,
       time .i64-at4 .ensures,
       c .before .before .f64-at .ensures,
       c .before .f64-at2 .ensures,
-      c .u64-at2 .ensures,
+      c .u64-at .ensures,
     )
 
 pub reception-at-spec : {M : Type 1} → statement M
@@ -81,13 +81,13 @@ reception-at-spec =
     tie.close
     (tie.spec
     mul-at
+    id-at-requires
     add-i64-at
     i64-at-requires
     add-i64-at-2
     i64-at-requires-2
     add-i64-at-3
     i64-at-requires-3
-    u64-at-requires
     add-i64-at-4
     i64-at-requires-4
     add-f64-at
@@ -95,5 +95,5 @@ reception-at-spec =
     add-f64-at-2
     f64-at-requires-2
     add-u64-at
-    u64-at-requires-2
+    u64-at-requires
     returns)

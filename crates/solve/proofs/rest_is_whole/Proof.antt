@@ -1,19 +1,24 @@
--- `solve::rest_is_whole` ends: its turns are counted down. Assumes nothing.
+-- `solve::rest_is_whole` ends: its turns are counted down. What is over is less than a reception, so it can be added to. Assumes nothing.
 use borrow.Author.Needs.{needs}
+use Prim.Native.Nat.{_<_}
+use native.Mathlib.Omega.{arith}
 use Rattle.solve.proofs.rest_is_whole.Statement.{statement}
 use Rattle.solve.proofs.rest_is_whole.Tie as tie
 
 abbrev Inv-loop : tie.InvT-loop
-Inv-loop fd turns₀ turns = Unit {0}
+Inv-loop fd turns₀ over₀ turns over = over < 132
 
 abbrev μ-loop : tie.MeasureT-loop
-μ-loop fd turns₀ turns = turns
+μ-loop fd turns₀ over₀ turns over = turns
 
 loop-holds : tie.Need-loop-holds Inv-loop μ-loop
-loop-holds c = tt
+loop-holds c = omega arith
 
 some-more-requires : tie.Need-some-more-requires Inv-loop μ-loop
 some-more-requires c κs = search needs
+
+add-over : tie.Need-add-over Inv-loop μ-loop
+add-over c = search needs
 
 returns : tie.Need-returns Inv-loop μ-loop
 returns c = tt
@@ -25,7 +30,7 @@ loop-less : tie.Need-loop-less Inv-loop μ-loop
 loop-less c = search needs
 
 loop-again : tie.Need-loop-again Inv-loop μ-loop
-loop-again c = tt
+loop-again c = omega arith
 
 returns-2 : tie.Need-returns-2 Inv-loop μ-loop
 returns-2 c = tt
@@ -38,6 +43,7 @@ rest-is-whole-spec =
     μ-loop
     loop-holds
     some-more-requires
+    add-over
     returns
     sub-turns
     loop-less

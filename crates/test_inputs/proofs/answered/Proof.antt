@@ -7,7 +7,7 @@ use Prim.Native.Nat.{ℕ, _/_, _%_}
 use lib.Dec.{eqb}
 use lib.ListN.{length}
 use Rattle.receptions.specs.declared.Fields.{Fields}
-use Rattle.receptions.specs.Receptions.{receptionAt, receptionIn}
+use Rattle.receptions.specs.Receptions.{receptionBytes, receptionAt, receptionIn}
 use Rattle.inputs.specs.declared.Check.the-variants.{Passed}
 use Rattle.inputs.specs.Inputs.{Inputs, inputsOf, checkInputs}
 use Rattle.inputs.proofs.Order.{is-passed, is-whole, few}
@@ -16,7 +16,7 @@ use Rattle.test_inputs.proofs.answered.Statement.{statement}
 use Rattle.test_inputs.proofs.answered.Tie as tie
 
 abbrev lent : tie.Start → Fields → Bool → Inputs
-lent s f whole = inputsOf whole (length (s .args .receptions .now) / 64) (receptionIn f) (s .args .g) (s .args .clock .now) (s .args .altitude .now) (s .args .reference .now)
+lent s f whole = inputsOf whole (length (s .args .receptions .now) / receptionBytes) (receptionIn f) (s .args .g) (s .args .clock .now) (s .args .altitude .now) (s .args .reference .now)
 
 unpacked-requires : tie.Need-unpacked-requires
 unpacked-requires c κs = search needs
@@ -38,9 +38,9 @@ problem-of-requires c κs =
     let s : tie.Start = c .before .before .before .before .before .before .before .before in
     let bytes : List ℕ = s .args .receptions .now in
     let f : Fields = c .before .before .before .unpacked .result in
-    let given : Inputs = lent s f (eqb (length bytes % 64) 0) in
+    let given : Inputs = lent s f (eqb (length bytes % receptionBytes) 0) in
     let e : checkInputs given ≡ Passed = sym (c .before .before .check-inputs .ensures) ∙ is-passed (c .before .before .check-inputs .result) (c .before .match .keys2) in
-    (nothing-else f (length bytes / 64) (receptionAt bytes) (c .before .before .before .unpacked .ensures) (few given e), subst (λ (w : Bool). checkInputs (lent s f w) ≡ Passed) (is-whole given e) e)
+    (nothing-else f (length bytes / receptionBytes) (receptionAt bytes) (c .before .before .before .unpacked .ensures) (few given e), subst (λ (w : Bool). checkInputs (lent s f w) ≡ Passed) (is-whole given e) e)
 
 problem-requires : tie.Need-problem-requires
 problem-requires c κs = search needs

@@ -1,0 +1,79 @@
+// The order of identities, by their four fields in turn.
+ghost use mathlib.Core.Path.{_≡_};
+ghost use Rattle.receptions.specs.Identities as identities;
+use crate::ObservationId;
+
+pub enum Ordering {
+    Less,
+    Equal,
+    Greater,
+}
+
+// The first of two that is not `Equal`.
+fn in_turn(first: Ordering, later: Ordering) -> Ordering
+    ensures { λ r. ⌜ r ≡ identities.inTurn first later ⌝ }
+{
+    match first {
+        Ordering::Less => Ordering::Less,
+        Ordering::Equal => later,
+        Ordering::Greater => Ordering::Greater,
+    }
+}
+
+fn compare_numbers(a: u64, b: u64) -> Ordering
+    ensures { λ r. ⌜ r ≡ identities.compareNumbers a b ⌝ }
+{
+    if a < b {
+        return Ordering::Less;
+    }
+    if b < a {
+        return Ordering::Greater;
+    }
+    Ordering::Equal
+}
+
+fn wide(x: u8) -> u64
+    ensures { λ r. ⌜ r ≡ x ⌝ }
+{
+    x as u64
+}
+
+// As unsigned, from the first.
+fn compare_bytes(a: [u8; 32], b: [u8; 32]) -> Ordering
+    ensures { λ r. ⌜ r ≡ identities.compareBytes a b ⌝ }
+{
+    for k in 0..32 {
+        let x = a[k];
+        let y = b[k];
+        if x != y {
+            return compare_numbers(wide(x), wide(y));
+        }
+    }
+    Ordering::Equal
+}
+
+fn compare(a: ObservationId, b: ObservationId) -> Ordering
+    ensures { λ r. ⌜ r ≡ identities.compare a b ⌝ }
+{
+    let a_receiver = a.receiver;
+    let b_receiver = b.receiver;
+    let a_message = a.message;
+    let b_message = b.message;
+    let receiver = compare_bytes(a_receiver, b_receiver);
+    let epoch = compare_numbers(a.epoch as u64, b.epoch as u64);
+    let timestamp = compare_numbers(a.timestamp, b.timestamp);
+    let message = compare_bytes(a_message, b_message);
+    in_turn(receiver, in_turn(epoch, in_turn(timestamp, message)))
+}
+
+// Whether a comes before b.
+pub fn before(a: ObservationId, b: ObservationId) -> bool
+    ensures { λ r. ⌜ r ≡ identities.before a b ⌝ }
+{
+    let found = compare(a, b);
+    match found {
+        Ordering::Less => true,
+        Ordering::Equal => false,
+        Ordering::Greater => false,
+    }
+}
