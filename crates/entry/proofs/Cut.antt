@@ -30,7 +30,9 @@ module _ (clock alt ref : Option (List ℕ)) where
   unfolding reply checkInputs whole
   torn-reply rs h = rw (ne-eqb (length rs % receptionBytes) 0 h) (without-n TornInput (length rs / receptionBytes) (omega arith))
 
-  many-reply : (rs : List ℕ) → length rs % receptionBytes ≡ 0 → 32 < length rs / receptionBytes → reply (filed rs clock alt ref) ≡ turnedAway (cond (sized 16 alt && sized 8 ref) TooMany TornInput) 0
+  many-reply
+      : (rs : List ℕ) → length rs % receptionBytes ≡ 0 → 32 < length rs / receptionBytes
+      → reply (filed rs clock alt ref) ≡ turnedAway (cond (sized 16 alt && sized 8 ref) TooMany TornInput) 0
   unfolding reply checkInputs whole
   many-reply rs h l = rw (eq-eqb (length rs % receptionBytes) 0 h, lt-leb (length rs / receptionBytes) 32 l) (go (sized 16 alt && sized 8 ref) _)
     where
@@ -39,11 +41,15 @@ module _ (clock alt ref : Option (List ℕ)) where
       go false I = without-n TornInput (I .n) (omega arith)
 
   -- one byte less than 33 receptions stands for every torn length
-  cut-torn : (rs cut : List ℕ) → (length rs % receptionBytes ≡ 0 → ⊥) → length cut ≡ oneTooMany - 1 → reply (filed rs clock alt ref) ≡ reply (filed cut clock alt ref)
+  cut-torn
+      : (rs cut : List ℕ) → (length rs % receptionBytes ≡ 0 → ⊥) → length cut ≡ oneTooMany - 1
+      → reply (filed rs clock alt ref) ≡ reply (filed cut clock alt ref)
   cut-torn rs cut h e = torn-reply rs h ∙ sym (torn-reply cut (λ q. omega arith))
 
   -- 33 receptions stand for every greater number
-  cut-whole : (rs cut : List ℕ) → length rs % receptionBytes ≡ 0 → oneTooMany ≤ length rs → length cut ≡ oneTooMany → reply (filed rs clock alt ref) ≡ reply (filed cut clock alt ref)
+  cut-whole
+      : (rs cut : List ℕ) → length rs % receptionBytes ≡ 0 → oneTooMany ≤ length rs → length cut ≡ oneTooMany
+      → reply (filed rs clock alt ref) ≡ reply (filed cut clock alt ref)
   cut-whole rs cut h l e = many-reply rs h (omega arith) ∙ sym (many-reply cut (omega arith) (omega arith))
 
 -- ---- the clock covariance

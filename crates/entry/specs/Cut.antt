@@ -20,18 +20,20 @@ filed rs clock altitude reference = record {
   reference = reference;
 }
 
--- the bytes of 33 receptions: 4,356
+-- the bytes of 33 receptions, which are 4,356
 abbrev pub oneTooMany : ℕ
 oneTooMany = 33 * receptionBytes
 
 pub record CutRepliesAlike : Type 0 where
-  -- one byte less than one reception too many stands for every torn receptions.bin
+  -- a byte less than that stands for every torn receptions.bin
   pub torn :
-      (rs cut : List ℕ) (clock altitude reference : Option (List ℕ)) → (length rs % receptionBytes ≡ 0 → ⊥) → length cut ≡ oneTooMany - 1
+      (rs cut : List ℕ) (clock altitude reference : Option (List ℕ))
+      → (length rs % receptionBytes ≡ 0 → ⊥) → length cut ≡ oneTooMany - 1
       → reply (filed rs clock altitude reference) ≡ reply (filed cut clock altitude reference)
-  -- one reception too many, for every whole number of receptions above 32
+  -- and just as much for every whole number of receptions above 32
   pub whole :
-      (rs cut : List ℕ) (clock altitude reference : Option (List ℕ)) → length rs % receptionBytes ≡ 0 → oneTooMany ≤ length rs → length cut ≡ oneTooMany
+      (rs cut : List ℕ) (clock altitude reference : Option (List ℕ))
+      → length rs % receptionBytes ≡ 0 → oneTooMany ≤ length rs → length cut ≡ oneTooMany
       → reply (filed rs clock altitude reference) ≡ reply (filed cut clock altitude reference)
   -- one byte too many for every longer clock.bin, altitude.bin and reference.bin
   pub clock :

@@ -4,3 +4,4 @@ pub mod Alike
 pub mod Steps
 pub mod Order
 pub mod Sound
+pub mod Ties

@@ -32,7 +32,7 @@ use Rattle.inputs.specs.InDomain.{InDomain, Ascending, altitudeGood}
 use Rattle.inputs.proofs.Order.{both-of, good-of, or-of, few, passed-receptions, passed-clock, passed-altitude, is-covered, clock-of, first-of}
 use Rattle.receptions.specs.Identities.{before}
 use Rattle.receptions.proofs.Filling.{fill-at}
-use Rattle.receptions.proofs.Ordered.{identities-ordered}
+use Rattle.receptions.proofs.Meaning.{identities-ordered}
 
 -- ---- a reception that passes
 module _ (from : ℕ → Reception) (i : ℕ) (e : checkReception from i ≡ Passed) where
@@ -133,7 +133,8 @@ module _ (n : ℕ) (from : ℕ → Reception) (g : Given) (b alt ref : List ℕ)
     climbs i zero h = let e : suc i + 0 ≡ suc i = omega arith in rw e (next-above i (omega (arith, h)))
     climbs i (suc d) h =
         let e : suc i + suc d ≡ suc (suc i + d) = omega arith in
-        rw e (identities-ordered .transitive (from i .id) (from (suc i + d) .id) (from (suc (suc i + d)) .id) (climbs i d (omega (arith, h))) (next-above (suc i + d) (omega (arith, h))))
+        let last = suc i + d in
+        rw e (identities-ordered .transitive (from i .id) (from last .id) (from (suc last) .id) (climbs i d (omega (arith, h))) (next-above last (omega (arith, h))))
 
     pub ascending : Ascending from n
     ascending i j l h = let e : suc i + (j - suc i) ≡ j = omega (arith, l) in rw e at (climbs i (j - suc i) (omega (arith, l, h)))

@@ -1,5 +1,6 @@
--- What holds of every problem that was read: document 01's domain. Statements only.
+-- What holds of every problem that was read: document 01's domain, and document 02's order. Statements only.
 use mathlib.Core.Path.{_≡_}
+use mathlib.Core.Logic.{_↔_}
 use mathlib.Core.Bool.{Bool, true}
 use Prim.Native.Nat.{ℕ, _*_, _<_, _≤_}
 use lib.IntN.{pos}
@@ -26,6 +27,13 @@ pub record InDomain (p : Problem) : Type 0 where
   pub clock : (i j : ℕ) → i ≤ j → j < p .n → goodEntry i j (at (p .«clock_m2») (p .n) i j) ≡ true
   pub altitude : altitudeGood (p .altitude) ≡ true
 
--- "identities strictly ascending": of any two of the first n receptions the earlier comes before the later (`IdentitiesOrdered` of receptions: so no two have one identity)
+-- "identities strictly ascending": of any two of the first n receptions the earlier comes before the later
 abbrev pub Ascending : (ℕ → Reception) → ℕ → Type 0
 Ascending at n = (i j : ℕ) → i < j → j < n → before (at i .id) (at j .id) ≡ true
+
+-- "Ties everywhere follow the new order": where receptions ascend, the one of two with the lower place is the one with
+-- the lower identity, so "lowest index on ties" is lowest identity on ties
+abbrev pub TiesFollowOrder : Type 0
+TiesFollowOrder =
+    (at : ℕ → Reception) (n : ℕ) → Ascending at n
+    → (i j : ℕ) → i < n → j < n → (i < j) ↔ (before (at i .id) (at j .id) ≡ true)

@@ -3,3 +3,4 @@ pub mod Filling
 pub mod Unpacked
 pub mod Ordered
 pub mod Bytes
+pub mod Meaning

@@ -11,7 +11,6 @@ use Rattle.receptions.specs.declared.ObservationId.{ObservationId}
 use Rattle.receptions.specs.declared.identity.Ordering.{Ordering}
 use Rattle.receptions.specs.declared.identity.Ordering.the-variants.{Less, Equal, Greater}
 use Rattle.receptions.specs.Identities.{inTurn, compareNumbers, compareBytes, compare, isLess, before}
-use Rattle.receptions.specs.Meaning.{StrictTotal, IdentitiesOrdered, FourInTurn}
 
 pub record Ordered {A : Type 0} (c : A → A → Ordering) : Type 0 where
   pub self : (a : A) → c a a ≡ Equal
@@ -46,7 +45,9 @@ module _ {A : Type 0} (c : A → A → Ordering) (o : Ordered c) where
       go (inl g) = rw (o .turned a b g)
       go (inr g) = rw (subst (λ (x : A). c x a ≡ Equal) (o .same a b (g .0)) (o .self a)) (h (g .1))
 
-  pub turn-through : (a b d : A) (p q r : Ordering) → (p ≡ Less → q ≡ Less → r ≡ Less) → inTurn (c a b) p ≡ Less → inTurn (c b d) q ≡ Less → inTurn (c a d) r ≡ Less
+  pub turn-through
+      : (a b d : A) (p q r : Ordering) → (p ≡ Less → q ≡ Less → r ≡ Less)
+      → inTurn (c a b) p ≡ Less → inTurn (c b d) q ≡ Less → inTurn (c a d) r ≡ Less
   turn-through a b d p q r h e f = go (turn-less (c a b) p e) (turn-less (c b d) q f)
     where
       go : (c a b ≡ Less) ⊎ ((c a b ≡ Equal) × (p ≡ Less)) → (c b d ≡ Less) ⊎ ((c b d ≡ Equal) × (q ≡ Less)) → inTurn (c a d) r ≡ Less
@@ -109,7 +110,13 @@ unfolding compareNumbers
 eq-numbers a b h k = rw (le-ltb a b h, le-ltb b a k)
 
 pub numbers-ordered : Ordered compareNumbers
-numbers-ordered = record { self = λ a. eq-numbers a a (omega arith) (omega arith); same = numbers-eq; turned = λ a b e. lt-numbers b a (numbers-gt a b e); through = λ a b d e f. lt-numbers a d (omega (arith, numbers-lt a b e, numbers-lt b d f)) }
+numbers-ordered =
+    record {
+      self = λ a. eq-numbers a a (omega arith) (omega arith);
+      same = numbers-eq;
+      turned = λ a b e. lt-numbers b a (numbers-gt a b e);
+      through = λ a b d e f. lt-numbers a d (omega (arith, numbers-lt a b e, numbers-lt b d f));
+    }
 
 -- ---- bytes
 bytes-self : (xs : List ℕ) → compareBytes xs xs ≡ Equal
@@ -148,20 +155,21 @@ bytes-ordered = record { self = bytes-self; same = bytes-eq; turned = bytes-turn
 
 -- ---- identities
 module _ (a b : ObservationId) where
-  abbrev message : Ordering
+  abbrev pub message : Ordering
   message = compareBytes (a .message) (b .message)
 
-  abbrev timestamp : Ordering
+  abbrev pub timestamp : Ordering
   timestamp = inTurn (compareNumbers (a .timestamp) (b .timestamp)) message
 
-  abbrev epoch : Ordering
+  abbrev pub epoch : Ordering
   epoch = inTurn (compareNumbers (a .epoch) (b .epoch)) timestamp
 
 ids-self : (a : ObservationId) → compare a a ≡ Equal
 unfolding compare
 ids-self a =
     turn-self compareBytes bytes-ordered (a .receiver) (epoch a a)
-    (turn-self compareNumbers numbers-ordered (a .epoch) (timestamp a a) (turn-self compareNumbers numbers-ordered (a .timestamp) (message a a) (bytes-self (a .message))))
+    (turn-self compareNumbers numbers-ordered (a .epoch) (timestamp a a)
+    (turn-self compareNumbers numbers-ordered (a .timestamp) (message a a) (bytes-self (a .message))))
 
 ids-eq : (a b : ObservationId) → compare a b ≡ Equal → a ≡ b
 unfolding compare
@@ -188,37 +196,27 @@ unfolding compare
 ids-through a b d =
     turn-through compareBytes bytes-ordered (a .receiver) (b .receiver) (d .receiver) (epoch a b) (epoch b d) (epoch a d)
     (turn-through compareNumbers numbers-ordered (a .epoch) (b .epoch) (d .epoch) (timestamp a b) (timestamp b d) (timestamp a d)
-    (turn-through compareNumbers numbers-ordered (a .timestamp) (b .timestamp) (d .timestamp) (message a b) (message b d) (message a d) (bytes-through (a .message) (b .message) (d .message))))
+    (turn-through compareNumbers numbers-ordered (a .timestamp) (b .timestamp) (d .timestamp) (message a b) (message b d) (message a d)
+    (bytes-through (a .message) (b .message) (d .message))))
 
-is-less : (p : Ordering) → isLess p ≡ true → p ≡ Less
+pub is-less : (p : Ordering) → isLess p ≡ true → p ≡ Less
 is-less Less e = refl
 is-less Equal e = absurd (let z : _≡_ {A = ℕ} 0 1 = cc in omega arith)
 is-less Greater e = absurd (let z : _≡_ {A = ℕ} 0 1 = cc in omega arith)
 
-pub identities-ordered : IdentitiesOrdered
+pub not-before-self : (a : ObservationId) → before a a ≡ false
 unfolding before
-identities-ordered =
-    record {
-      irreflexive = λ a. rw (ids-self a);
-      transitive = λ a b d e f. rw (ids-through a b d (is-less (compare a b) e) (is-less (compare b d) f));
-      total = λ a b e f. apart a b (compare a b) refl e f;
-    }
-  where
-    apart : (a b : ObservationId) (p : Ordering) → compare a b ≡ p → isLess p ≡ false → isLess (compare b a) ≡ false → a ≡ b
-    apart a b Less g e f = absurd (let z : _≡_ {A = ℕ} 0 1 = cc in omega arith)
-    apart a b Equal g e f = ids-eq a b g
-    apart a b Greater g e f = absurd (let l = ids-turned a b g in let z : _≡_ {A = ℕ} 0 1 = cc in omega arith)
+not-before-self a = rw (ids-self a)
 
-pub four-in-turn : FourInTurn
-unfolding before compare
-four-in-turn a b = (
-  λ e. turn-said compareBytes bytes-ordered (a .receiver) (b .receiver) (epoch a b) (λ h. h)
-      (turn-said compareNumbers numbers-ordered (a .epoch) (b .epoch) (timestamp a b) (numbers-lt (a .epoch) (b .epoch))
-      (turn-said compareNumbers numbers-ordered (a .timestamp) (b .timestamp) (message a b) (numbers-lt (a .timestamp) (b .timestamp)) (λ h. h)))
-      (is-less (compare a b) e),
-  λ e. ap isLess
-      (turn-meant compareBytes bytes-ordered (a .receiver) (b .receiver) (epoch a b) (λ h. h)
-      (turn-meant compareNumbers numbers-ordered (a .epoch) (b .epoch) (timestamp a b) (lt-numbers (a .epoch) (b .epoch))
-      (turn-meant compareNumbers numbers-ordered (a .timestamp) (b .timestamp) (message a b) (lt-numbers (a .timestamp) (b .timestamp)) (λ h. h)))
-      e),
-)
+pub before-through : (a b d : ObservationId) → before a b ≡ true → before b d ≡ true → before a d ≡ true
+unfolding before
+before-through a b d e f = rw (ids-through a b d (is-less (compare a b) e) (is-less (compare b d) f))
+
+pub neither-before : (a b : ObservationId) → before a b ≡ false → before b a ≡ false → a ≡ b
+unfolding before
+neither-before a b e f = go (compare a b) refl e
+  where
+    go : (p : Ordering) → compare a b ≡ p → isLess p ≡ false → a ≡ b
+    go Less g e = absurd (let z : _≡_ {A = ℕ} 0 1 = cc in omega arith)
+    go Equal g e = ids-eq a b g
+    go Greater g e = absurd (let l = ids-turned a b g in let z : _≡_ {A = ℕ} 0 1 = cc in omega arith)

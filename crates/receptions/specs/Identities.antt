@@ -1,4 +1,5 @@
--- The order of identities. Document 02, item 6: "Order is by these four fields in turn, bytes compared as unsigned from the first." Definitions, and what they mean.
+-- The order of identities. Document 02, item 6: "Order is by these four fields in turn, bytes compared as unsigned from
+-- the first." Definitions only; specs/Meaning.antt says what they mean.
 use mathlib.Core.Bool.{Bool, true, false, cond}
 use mathlib.Core.List.{List, [], _∷_}
 use Prim.Native.Nat.{ℕ}
@@ -16,7 +17,7 @@ inTurn Greater later = Greater
 unfoldable pub compareNumbers : ℕ → ℕ → Ordering
 compareNumbers a b = cond (ltb a b) Less (cond (ltb b a) Greater Equal)
 
--- "bytes compared as unsigned from the first"; of two lists of which one begins the other, the shorter comes first
+-- "bytes compared as unsigned from the first"; of two lists of which one begins the other the shorter comes first
 unfoldable pub compareBytes : List ℕ → List ℕ → Ordering
 compareBytes [] [] = Equal
 compareBytes [] (y ∷ ys) = Less
@@ -27,7 +28,8 @@ compareBytes (x ∷ xs) (y ∷ ys) = inTurn (compareNumbers x y) (compareBytes x
 unfoldable pub compare : ObservationId → ObservationId → Ordering
 compare a b =
     inTurn (compareBytes (a .receiver) (b .receiver))
-    (inTurn (compareNumbers (a .epoch) (b .epoch)) (inTurn (compareNumbers (a .timestamp) (b .timestamp)) (compareBytes (a .message) (b .message))))
+    (inTurn (compareNumbers (a .epoch) (b .epoch))
+    (inTurn (compareNumbers (a .timestamp) (b .timestamp)) (compareBytes (a .message) (b .message))))
 
 abbrev pub isLess : Ordering → Bool
 isLess Less = true

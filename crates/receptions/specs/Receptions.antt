@@ -1,5 +1,5 @@
--- The receptions of a solve: those of receptions.bin, those of a caller's list, and as arrays by field. Document 01, 'The fix: 176 bytes' and 'Forms for parts of the code';
--- document 02, item 6. Definitions only.
+-- The receptions of a solve: those of receptions.bin, those of a caller's list, and as arrays by field. Document 01,
+-- 'The fix: 176 bytes' and 'Forms for parts of the code'; document 02, item 6. Definitions only.
 use mathlib.Core.List.{List, [], _∷_}
 use Prim.Native.Nat.{ℕ, zero, suc, _+_, _*_, _/_, _%_}
 use lib.IntN.{ℤ, pos}
@@ -30,7 +30,8 @@ idAt bytes at =
       message = partAt bytes (at + 44);
     }
 
--- the identity, then "time i64 ps, site three i64 mm, z f64 (metres of light), noise f64 (m²), eight zero bytes": reception i
+-- the identity, then "time i64 ps, site three i64 mm, z f64 (metres of light), noise f64 (m²), eight zero bytes":
+-- reception i
 unfoldable pub receptionAt : List ℕ → ℕ → Reception
 receptionAt bytes i =
     let at = receptionBytes * i in
@@ -50,6 +51,7 @@ wholes size = replicate size (pos 0)
 abbrev pub floats : ℕ → List Float
 floats size = replicate size nought
 
+-- an identity of zeros
 abbrev pub blankId : ObservationId
 blankId = record { receiver = replicate 32 0; epoch = 0; timestamp = 0; message = replicate 32 0 }
 

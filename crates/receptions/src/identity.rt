@@ -1,4 +1,4 @@
-// The order of identities, by their four fields in turn.
+// The order of identities, by their four fields in turn: as Rust derives it for `ObservationId` of obs.rs.
 ghost use mathlib.Core.Path.{_≡_};
 ghost use Rattle.receptions.specs.Identities as identities;
 use crate::ObservationId;
@@ -9,7 +9,7 @@ pub enum Ordering {
     Greater,
 }
 
-// The first of two that is not `Equal`.
+// The first of the two that is not `Equal`.
 fn in_turn(first: Ordering, later: Ordering) -> Ordering
     ensures { λ r. ⌜ r ≡ identities.inTurn first later ⌝ }
 {
@@ -32,13 +32,21 @@ fn compare_numbers(a: u64, b: u64) -> Ordering
     Ordering::Equal
 }
 
-fn wide(x: u8) -> u64
-    ensures { λ r. ⌜ r ≡ x ⌝ }
+// As unsigned.
+fn compare_byte(x: u8, y: u8) -> Ordering
+    ensures { λ r. ⌜ r ≡ identities.compareNumbers x y ⌝ }
 {
-    x as u64
+    compare_numbers(x as u64, y as u64)
 }
 
-// As unsigned, from the first.
+// As numbers, not by their bytes in the file.
+fn compare_epochs(a: u32, b: u32) -> Ordering
+    ensures { λ r. ⌜ r ≡ identities.compareNumbers a b ⌝ }
+{
+    compare_numbers(a as u64, b as u64)
+}
+
+// From the first: the first two that differ decide.
 fn compare_bytes(a: [u8; 32], b: [u8; 32]) -> Ordering
     ensures { λ r. ⌜ r ≡ identities.compareBytes a b ⌝ }
 {
@@ -46,7 +54,7 @@ fn compare_bytes(a: [u8; 32], b: [u8; 32]) -> Ordering
         let x = a[k];
         let y = b[k];
         if x != y {
-            return compare_numbers(wide(x), wide(y));
+            return compare_byte(x, y);
         }
     }
     Ordering::Equal
@@ -60,7 +68,7 @@ fn compare(a: ObservationId, b: ObservationId) -> Ordering
     let a_message = a.message;
     let b_message = b.message;
     let receiver = compare_bytes(a_receiver, b_receiver);
-    let epoch = compare_numbers(a.epoch as u64, b.epoch as u64);
+    let epoch = compare_epochs(a.epoch, b.epoch);
     let timestamp = compare_numbers(a.timestamp, b.timestamp);
     let message = compare_bytes(a_message, b_message);
     in_turn(receiver, in_turn(epoch, in_turn(timestamp, message)))

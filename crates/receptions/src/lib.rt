@@ -6,7 +6,8 @@ ghost use mathlib.Core.Path.{_≡_};
 ghost use Prim.Native.Nat.{_+_, _*_, _<_, _≤_};
 ghost use lib.IntN.{pos};
 ghost use lib.ListN.{length, set, getD};
-ghost use Rattle.receptions.specs.Receptions.{receptionBytes, blankId, partAt, idAt, receptionAt, listedAt, fieldsOf};
+ghost use Rattle.receptions.specs.Receptions.{receptionBytes, blankId, partAt, idAt, receptionAt};
+ghost use Rattle.receptions.specs.Receptions.{listedAt, fieldsOf};
 
 // `ObservationId` of the source: which message, at which receiver.
 #[repr(C)]

@@ -4,7 +4,7 @@ use mathlib.Core.Path.{ap, _∙_}
 use Prim.Native.Nat.{_/_}
 use native.Mathlib.Omega.{arith}
 use lib.ListN.{length}
-use Rattle.receptions.specs.Receptions.{fieldsOf, receptionAt}
+use Rattle.receptions.specs.Receptions.{receptionBytes, fieldsOf, receptionAt}
 use Rattle.inputs.proofs.Alike.{nothing-else}
 use Rattle.entry.specs.Reply.{given}
 use Rattle.entry.proofs.Unpacked.{few-all, few-within, solved}
@@ -15,7 +15,10 @@ few-requires : tie.Need-few-requires
 few-requires c κs = search needs
 
 of-bytes-requires : tie.Need-of-bytes-requires
-of-bytes-requires c κs = let w = few-within (length (c .before .before .before .before .before .before .args .receptions .now) / 132) (c .few .result) (c .few .ensures) in (omega (arith, w .0), w .1)
+of-bytes-requires c κs =
+    let s = c .before .before .before .before .before .before in
+    let w = few-within (length (s .args .receptions .now) / receptionBytes) (c .few .result) (c .few .ensures) in
+    (omega (arith, w .0), w .1)
 
 solve-fields-requires : tie.Need-solve-fields-requires
 solve-fields-requires c κs = nothing-else (c .before .of-bytes .result) _ (receptionAt (c .before .before .before .before .before .before .before .before .args .receptions .now)) (λ h. c .before .of-bytes .ensures ∙ ap (fieldsOf (receptionAt (c .before .before .before .before .before .before .before .before .args .receptions .now))) (few-all _ _ (c .before .before .few .ensures) h))

@@ -97,7 +97,8 @@ loop-again c =
       omega arith,
       check-next f i (turn .loop .inv .1)
           (rw (toZ-ofZ w64 (getD (f .time) i (pos 0)) (record { sfits = timed .t22 .given }), placed .site-in .ensures))
-          (ordered .ascends .ensures ∙ ap (λ (k : ℕ). (eqb i 0 || before (getD (f .id) k noId) (getD (f .id) i noId))) (found .place-before .ensures)) (c .before .check-reception .ensures) (c .or-else .ensures),
+          (ordered .ascends .ensures ∙ ap (λ (k : ℕ). (eqb i 0 || before (getD (f .id) k noId) (getD (f .id) i noId))) (found .place-before .ensures))
+          (c .before .check-reception .ensures) (c .or-else .ensures),
     )
 
 returns : tie.Need-returns Inv-loop μ-loop

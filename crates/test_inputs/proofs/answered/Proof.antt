@@ -16,7 +16,9 @@ use Rattle.test_inputs.proofs.answered.Statement.{statement}
 use Rattle.test_inputs.proofs.answered.Tie as tie
 
 abbrev lent : tie.Start → Fields → Bool → Inputs
-lent s f whole = inputsOf whole (length (s .args .receptions .now) / receptionBytes) (receptionIn f) (s .args .g) (s .args .clock .now) (s .args .altitude .now) (s .args .reference .now)
+lent s f whole =
+    let a = s .args in
+    inputsOf whole (length (a .receptions .now) / receptionBytes) (receptionIn f) (a .g) (a .clock .now) (a .altitude .now) (a .reference .now)
 
 unpacked-requires : tie.Need-unpacked-requires
 unpacked-requires c κs = search needs
@@ -40,7 +42,8 @@ problem-of-requires c κs =
     let f : Fields = c .before .before .before .unpacked .result in
     let given : Inputs = lent s f (eqb (length bytes % receptionBytes) 0) in
     let e : checkInputs given ≡ Passed = sym (c .before .before .check-inputs .ensures) ∙ is-passed (c .before .before .check-inputs .result) (c .before .match .keys2) in
-    (nothing-else f (length bytes / receptionBytes) (receptionAt bytes) (c .before .before .before .unpacked .ensures) (few given e), subst (λ (w : Bool). checkInputs (lent s f w) ≡ Passed) (is-whole given e) e)
+    let n = length bytes / receptionBytes in
+    (nothing-else f n (receptionAt bytes) (c .before .before .before .unpacked .ensures) (few given e), subst (λ (w : Bool). checkInputs (lent s f w) ≡ Passed) (is-whole given e) e)
 
 problem-requires : tie.Need-problem-requires
 problem-requires c κs = search needs

@@ -7,17 +7,11 @@ use Rattle.receptions.proofs.identity.compare.Tie as tie
 compare-bytes-requires : tie.Need-compare-bytes-requires
 compare-bytes-requires c κs = search needs
 
-cast-compare-numbers : tie.Need-cast-compare-numbers
-cast-compare-numbers c = search needs
-
-cast-compare-numbers-2 : tie.Need-cast-compare-numbers-2
-cast-compare-numbers-2 c = search needs
+compare-epochs-requires : tie.Need-compare-epochs-requires
+compare-epochs-requires c κs = search needs
 
 compare-numbers-requires : tie.Need-compare-numbers-requires
 compare-numbers-requires c κs = search needs
-
-compare-numbers-requires-2 : tie.Need-compare-numbers-requires-2
-compare-numbers-requires-2 c κs = search needs
 
 compare-bytes-requires-2 : tie.Need-compare-bytes-requires-2
 compare-bytes-requires-2 c κs = search needs
@@ -42,9 +36,9 @@ returns c =
       c .before .in-turn2 .ensures,
       c .before .before .in-turn .ensures,
       message .compare-bytes2 .ensures,
-      timestamp .compare-numbers2 .ensures,
-      epoch .compare-numbers .ensures,
-      epoch .before .before .before .compare-bytes .ensures,
+      timestamp .compare-numbers .ensures,
+      epoch .compare-epochs .ensures,
+      epoch .before .compare-bytes .ensures,
     )
 
 pub compare-spec : {M : Type 1} → statement M
@@ -52,10 +46,8 @@ compare-spec =
     tie.close
     (tie.spec
     compare-bytes-requires
-    cast-compare-numbers
-    cast-compare-numbers-2
+    compare-epochs-requires
     compare-numbers-requires
-    compare-numbers-requires-2
     compare-bytes-requires-2
     in-turn-requires
     in-turn-requires-2

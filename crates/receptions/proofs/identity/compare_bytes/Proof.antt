@@ -1,10 +1,9 @@
--- `receptions::identity::compare_bytes` meets its contract: the bytes before k agree, and the first that differ decide (`bytes-differ`). Assumes nothing.
+-- `receptions::identity::compare_bytes` meets its contract: the bytes before k agree, and the first two that differ decide (`bytes-differ`).
+-- Assumes nothing.
 use borrow.Author.Needs.{needs}
-use mathlib.Core.Path.{_≡_, sym, _∙_}
+use mathlib.Core.Path.{sym, _∙_}
 use Prim.Native.Nat.{_-_, _≤_}
 use native.Mathlib.Omega.{arith}
-use lib.ListN.{getD}
-use Rattle.receptions.specs.Identities.{compareNumbers}
 use Rattle.receptions.proofs.Bytes.{Agree, agree-next, bytes-differ, bytes-alike}
 use Rattle.receptions.proofs.identity.compare_bytes.Statement.{statement}
 use Rattle.receptions.proofs.identity.compare_bytes.Tie as tie
@@ -24,25 +23,20 @@ array-read-x c = search needs
 array-read-y : tie.Need-array-read-y Inv-loop μ-loop
 array-read-y c = search needs
 
-wide-requires : tie.Need-wide-requires Inv-loop μ-loop
-wide-requires c κs = search needs
-
-wide-requires-2 : tie.Need-wide-requires-2 Inv-loop μ-loop
-wide-requires-2 c κs = search needs
-
-compare-numbers-requires : tie.Need-compare-numbers-requires Inv-loop μ-loop
-compare-numbers-requires c κs = search needs
+compare-byte-requires : tie.Need-compare-byte-requires Inv-loop μ-loop
+compare-byte-requires c κs = search needs
 
 returns : tie.Need-returns Inv-loop μ-loop
 returns c =
-    let test = c .before .before .before in
+    let test = c .before in
     let turn = test .before .before in
     let start = turn .before in
     let a = start .args .t1 in
     let b = start .args .t2 in
     let k = turn .loop .k in
-    let e : c .compare-numbers .result ≡ compareNumbers (getD a k 0) (getD b k 0) = rw (c .compare-numbers .ensures, c .before .wide2 .ensures, c .before .before .wide .ensures) in
-    e ∙ bytes-differ a b k (omega (arith, test .before .loop-test .taken, start .good .0 .1 .0 .1)) (omega (arith, test .before .loop-test .taken, start .good .1 .0 .1 .0 .1)) (turn .loop .inv .1) (test .if1 .taken)
+    let below = test .before .loop-test .taken in
+    c .compare-byte .ensures
+    ∙ bytes-differ a b k (omega (arith, below, start .good .0 .1 .0 .1)) (omega (arith, below, start .good .1 .0 .1 .0 .1)) (turn .loop .inv .1) (test .if1 .taken)
 
 add-k : tie.Need-add-k Inv-loop μ-loop
 add-k c = search needs
@@ -58,7 +52,8 @@ loop-again c =
 returns-2 : tie.Need-returns-2 Inv-loop μ-loop
 returns-2 c =
     let start = c .before .before in
-    bytes-alike (start .args .t1) (start .args .t2) (start .good .0 .1 .0 .1 ∙ sym (start .good .1 .0 .1 .0 .1)) (λ j h. c .before .loop .inv .1 j (omega (arith, h, start .good .0 .1 .0 .1)))
+    let all = start .good .0 .1 .0 .1 in
+    bytes-alike (start .args .t1) (start .args .t2) (all ∙ sym (start .good .1 .0 .1 .0 .1)) (λ j h. c .before .loop .inv .1 j (omega (arith, h, all)))
 
 pub compare-bytes-spec : {M : Type 1} → statement M
 compare-bytes-spec =
@@ -69,9 +64,7 @@ compare-bytes-spec =
     loop-holds
     array-read-x
     array-read-y
-    wide-requires
-    wide-requires-2
-    compare-numbers-requires
+    compare-byte-requires
     returns
     add-k
     loop-less
