@@ -2,7 +2,7 @@
 
 use crate::kinds::{Kind, SCENES};
 use crate::random::Random;
-use crate::scene::Files;
+use crate::scene::{Files, RECEPTION};
 
 pub const DAMAGED: [Kind<Files>; 12] = [
     ("a reception's field outside", bad_field),
@@ -18,6 +18,9 @@ pub const DAMAGED: [Kind<Files>; 12] = [
     ("any byte changed", any_byte),
     ("raw bytes", raw),
 ];
+
+/// The bytes of a reception that are its identity.
+const IDENTITY: usize = 76;
 
 pub const KINDS: usize = SCENES.len() + DAMAGED.len();
 
@@ -62,7 +65,7 @@ fn outside(random: &mut Random, low: f64, high: f64) -> u64 {
 }
 
 fn reception(random: &mut Random, files: &Files) -> usize {
-    64 * random.below(files.receptions.as_ref().map_or(1, |bytes| bytes.len() / 64).max(1))
+    RECEPTION * random.below(files.receptions.as_ref().map_or(1, |bytes| bytes.len() / RECEPTION).max(1))
 }
 
 fn bad_field(random: &mut Random) -> Files {
@@ -70,10 +73,10 @@ fn bad_field(random: &mut Random) -> Files {
     let at = reception(random, &files);
     let axis = random.below(3);
     let (offset, word) = match random.below(4) {
-        0 => (8, random.of(&[-1, 10_000_000_000_001, i64::MIN, i64::MAX, 10_000_000_000_000]) as u64),
-        1 => (16 + 8 * axis, random.of(&[-10_000_000_001, 10_000_000_001, i64::MIN, i64::MAX, 10_000_000_000]) as u64),
-        2 => (40, outside(random, 0.0, 3e9)),
-        _ => (48, outside(random, 1e-6, 1e12)),
+        0 => (76, random.of(&[-1, 10_000_000_000_001, i64::MIN, i64::MAX, 10_000_000_000_000]) as u64),
+        1 => (84 + 8 * axis, random.of(&[-10_000_000_001, 10_000_000_001, i64::MIN, i64::MAX, 10_000_000_000]) as u64),
+        2 => (108, outside(random, 0.0, 3e9)),
+        _ => (116, outside(random, 1e-6, 1e12)),
     };
     put(&mut files.receptions, at + offset, word);
     files
@@ -81,17 +84,34 @@ fn bad_field(random: &mut Random) -> Files {
 
 fn filler(random: &mut Random) -> Files {
     let mut files = whole(random);
-    let at = reception(random, &files) + 56 + random.below(8);
+    let at = reception(random, &files) + 124 + random.below(8);
     part(&mut files.receptions)[at] = 1 << random.below(8);
     files
+}
+
+/// One byte changed, often by 1, at times with others that follow it in the file.
+fn near(random: &mut Random, identity: &mut [u8]) {
+    let (any, some) = (random.below(IDENTITY), random.bits() as u8);
+    let place = random.of(&[0, 31, 32, 35, 36, 43, 44, 75, any]);
+    let by = random.of(&[1, 255, 128, some]);
+    identity[place] = identity[place].wrapping_add(by);
+    if random.one_in(2) {
+        identity[place + 1..].iter_mut().for_each(|byte| *byte = random.bits() as u8);
+    }
 }
 
 fn disorder(random: &mut Random) -> Files {
     let mut files = whole(random);
     let (at, of) = (reception(random, &files), reception(random, &files));
-    let word: [u8; 8] = part(&mut files.receptions)[of..of + 8].try_into().expect("eight bytes");
-    let identity = u64::from_le_bytes(word);
-    put(&mut files.receptions, at, random.of(&[identity, identity, 0, u64::MAX, identity.wrapping_sub(1)]));
+    let mut random = Random::new(random.bits());
+    let of = if random.one_in(2) { at.saturating_sub(RECEPTION) } else { of };
+    let mut identity = part(&mut files.receptions)[of..of + IDENTITY].to_vec();
+    match random.below(6) {
+        0 => {}
+        1 => identity.fill(random.of(&[0, 255])),
+        _ => near(&mut random, &mut identity),
+    }
+    part(&mut files.receptions)[at..at + IDENTITY].copy_from_slice(&identity);
     files
 }
 
@@ -145,8 +165,8 @@ fn too_many(random: &mut Random) -> Files {
     let mut files = whole(random);
     let n = random.of(&[33, 34, 64, 100]);
     let bytes = part(&mut files.receptions);
-    let one = bytes[..64].to_vec();
-    while bytes.len() < 64 * n {
+    let one = bytes[..RECEPTION].to_vec();
+    while bytes.len() < RECEPTION * n {
         bytes.extend(&one);
     }
     if random.one_in(4) {
@@ -169,7 +189,7 @@ fn absent(random: &mut Random) -> Files {
 /// Parts of damaged files put together: which refusal comes first is seen here.
 fn several(random: &mut Random) -> Files {
     let base = bad_field(random);
-    let n = part(&mut base.receptions.clone()).len() / 64;
+    let n = part(&mut base.receptions.clone()).len() / RECEPTION;
     let other = DAMAGED[random.below(9)].1(random);
     let mut clock = base.clock.clone();
     if random.one_in(2) {
@@ -211,7 +231,7 @@ fn raw(random: &mut Random) -> Files {
         _ => Some(bytes(size)),
     };
     Files {
-        receptions: file(0, 64 * n, &mut bytes),
+        receptions: file(0, RECEPTION * n, &mut bytes),
         clock: file(1, 8 * n * n, &mut bytes),
         altitude: file(2, 16, &mut bytes),
         reference: file(3, 8, &mut bytes),

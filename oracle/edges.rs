@@ -1,6 +1,7 @@
 //! Document 01's edges that are not whole numbers, each as a problem: found by search from a fixed seed. What makes it the edge is asserted of the rounds.
 
 use crate::geo;
+use crate::identities;
 use crate::linalg::{norm, sub};
 use crate::parts;
 use crate::random::Random;
@@ -282,7 +283,8 @@ fn alike(random: &mut Random, comes_back: bool) -> Option<Vec<Scene>> {
     let twice = |turned: usize| {
         let sign = |k: usize| if k == turned { -1.0 } else { 1.0 };
         let mut scene = base.clone();
-        scene.receptions = (0..n).map(|k| Reception { identity: k as u64 + 1, ..base.receptions[from(k)] }).collect();
+        scene.receptions = (0..n).map(|k| base.receptions[from(k)]).collect();
+        identities::anew(&mut scene.receptions);
         let entry = |k: usize, l: usize| sign(k) * sign(l) * base.clock.as_ref().map_or(0.0, |clock| clock[from(k) * base.n() + from(l)]);
         scene.clock = Some((0..n * n).map(|k| entry(k / n, k % n)).collect());
         scene

@@ -1,8 +1,11 @@
 //! examples OUT SOLVE: the example folders of the repository, each with its files and the original's record. Six stations about Lake Constance hear an aircraft that reports its
-//! barometric altitude; in the second folder one station is 2 km late; in the third only three stations hear it, and two places fit alike. The crate SOLVE gets what its program
-//! is run on: the files of the second folder without the reference, so that an absent file is tried too. records.bin has the three records, one after the other.
+//! barometric altitude; in the second folder one station is 2 km late; in the third only three stations hear it, and two places fit alike. All have the same epoch, timestamp and
+//! message in their identities, so that the stations' keys alone tell the receptions apart. The crate SOLVE gets what its program is run on: the files of the second folder without the
+//! reference, so that an absent file is tried too. records.bin has the three records, one after the other.
 
 use oracle::geo::Geodetic;
+use oracle::identities::{self, Family};
+use oracle::obs::ObservationId;
 use oracle::random::Random;
 use oracle::record;
 use oracle::scene::{Files, Scene};
@@ -22,14 +25,25 @@ fn place([lat_deg, lon_deg, height_m]: [f64; 3]) -> Geodetic {
     Geodetic { lat_deg, lon_deg, height_m }
 }
 
+/// n identities with a counter of 48 bits, as the source has it.
+fn names(n: usize) -> Vec<ObservationId> {
+    let mut random = Random::new(6);
+    let mut common = [0; 76].map(|_: u8| random.bits() as u8);
+    common[32..38].copy_from_slice(&[0, 0, 0, 3, 0, 0]);
+    let seeds: Vec<u64> = (0..n).map(|_| random.bits()).collect();
+    identities::sorted(Family::Receivers, &common, &seeds)
+}
+
 fn scene(stations: &[[f64; 3]], aircraft: [f64; 3], late: &[f64]) -> Scene {
     let mut random = Random::new(1);
     let sites: Vec<[i64; 3]> = stations.iter().map(|station| oracle::geo::to_mm(oracle::geo::to_ecef(place(*station)))).collect();
     let n = sites.len();
     let noise = vec![400.0; n];
     let error: Vec<f64> = (0..n).map(|i| 15.0 * random.normal() + late[i]).collect();
+    let mut receptions = sky::heard(&mut random, oracle::geo::to_ecef(place(aircraft)), &sites, &noise, &error);
+    receptions.iter_mut().zip(names(n)).for_each(|(r, name)| r.identity = name);
     Scene {
-        receptions: sky::heard(&mut random, oracle::geo::to_ecef(place(aircraft)), &sites, &noise, &error),
+        receptions,
         clock: Some((0..n * n).map(|k| if k / n == k % n { 100.0 } else { 25.0 }).collect()),
         altitude: Some((1, 11_280.0)),
         reference: Some(1_700_000_000_000_000),

@@ -1,19 +1,20 @@
-//! From the bytes of the four inputs to a problem, with document 01's refusals 10, 11, 12, 13 and 15, in its order.
+//! From the bytes of the four inputs to a problem, with document 01's refusals 10, 11, 12, 13 and 15, in its order. Identities are document 02's, and their order is
+//! the one that the source derives.
 
-use crate::scene::{Files, Reception, Scene};
+use crate::obs::ObservationId;
+use crate::scene::{Files, RECEPTION, Reception, Scene};
 
 /// Number and detail.
 pub type Refusal = (u32, u32);
 
-const RECEPTION: usize = 64;
 const MOST: usize = 32;
 
-fn word(bytes: &[u8], at: usize) -> [u8; 8] {
-    bytes[at..at + 8].try_into().expect("eight bytes")
+fn part<const N: usize>(bytes: &[u8], at: usize) -> [u8; N] {
+    bytes[at..at + N].try_into().expect("N bytes")
 }
 
 fn float(bytes: &[u8], at: usize) -> f64 {
-    f64::from_le_bytes(word(bytes, at))
+    f64::from_le_bytes(part(bytes, at))
 }
 
 /// Compared in binary64; a not-a-number lies nowhere.
@@ -33,7 +34,7 @@ pub fn read(files: &Files) -> Result<Scene, Refusal> {
     let receptions = receptions(bytes)?;
     let clock = files.clock.as_ref().map(|bytes| clock(bytes, receptions.len())).transpose()?;
     let altitude = files.altitude.as_ref().map(|bytes| altitude(bytes)).transpose()?;
-    let reference = files.reference.as_ref().map(|bytes| i64::from_le_bytes(word(bytes, 0)));
+    let reference = files.reference.as_ref().map(|bytes| i64::from_le_bytes(part(bytes, 0)));
     Ok(Scene { receptions, clock, altitude, reference })
 }
 
@@ -49,21 +50,30 @@ fn receptions(bytes: &[u8]) -> Result<Vec<Reception>, Refusal> {
     Ok(all)
 }
 
+fn identity(record: &[u8]) -> ObservationId {
+    ObservationId {
+        receiver: part(record, 0),
+        epoch: u32::from_le_bytes(part(record, 32)),
+        timestamp: u64::from_le_bytes(part(record, 36)),
+        message: part(record, 44),
+    }
+}
+
 /// None where a field lies outside the domain or the filler is not zero.
 fn reception(record: &[u8]) -> Option<Reception> {
-    let whole = |at: usize| i64::from_le_bytes(word(record, at));
+    let whole = |at: usize| i64::from_le_bytes(part(record, at));
     let r = Reception {
-        identity: u64::from_le_bytes(word(record, 0)),
-        time: whole(8),
-        site_mm: [whole(16), whole(24), whole(32)],
-        z: float(record, 40),
-        noise: float(record, 48),
+        identity: identity(record),
+        time: whole(76),
+        site_mm: [whole(84), whole(92), whole(100)],
+        z: float(record, 108),
+        noise: float(record, 116),
     };
     let sound = (0..=10_000_000_000_000).contains(&r.time)
         && r.site_mm.iter().all(|mm| (-10_000_000_000..=10_000_000_000).contains(mm))
         && lies(r.z, 0.0, 3e9)
         && lies(r.noise, 1e-6, 1e12)
-        && word(record, 56) == [0; 8];
+        && part(record, 124) == [0; 8];
     sound.then_some(r)
 }
 

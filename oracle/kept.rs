@@ -5,7 +5,7 @@ use crate::record::LENGTH;
 use crate::scene::Files;
 
 /// The longest receptions.bin and clock.bin that are kept, so that a replay can have buffers of a fixed length.
-const MOST: [usize; 2] = [8_192, 16_384];
+const MOST: [usize; 2] = [16_384, 16_384];
 
 pub struct Kept {
     pub files: Files,

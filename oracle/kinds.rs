@@ -1,6 +1,7 @@
 //! Problems of every kind, from a seed.
 
 use crate::geo;
+use crate::identities::{self, Family};
 use crate::random::{Random, ten_to};
 use crate::scene::{Reception, Scene};
 use crate::sky::{self, Sky, sound};
@@ -228,13 +229,13 @@ fn end(random: &mut Random, scene: &mut Scene) {
 fn domain(random: &mut Random) -> Scene {
     let n = random.below(33);
     let by_size = random.one_in(2);
-    let mut identity = 0;
-    let receptions = (0..n)
+    let mut seeds = Vec::new();
+    let mut receptions: Vec<Reception> = (0..n)
         .map(|_| {
-            identity += 1 + (random.bits() >> 8);
+            seeds.push(random.bits());
             let float = |random: &mut Random, low: f64, high: f64| if by_size { random.decades(-6, 8).clamp(low, high) } else { random.between(low, high) };
             Reception {
-                identity,
+                identity: identities::of_bytes(&[0; 76]),
                 time: random.whole(0, 10_000_000_000_000),
                 site_mm: [0; 3].map(|_: i64| random.whole(-10_000_000_000, 10_000_000_000)),
                 z: float(random, 0.0, 3e9),
@@ -242,6 +243,8 @@ fn domain(random: &mut Random) -> Scene {
             }
         })
         .collect();
+    let names = identities::sorted(Family::Any, &[0; 76], &seeds);
+    receptions.iter_mut().zip(names).for_each(|(r, identity)| r.identity = identity);
     let mut clock: Vec<f64> = (0..n * n).map(|_| random.within(1.0) * ten_to(random.of(&[-6, 0, 6, 12]))).collect();
     (0..n).for_each(|i| clock[i * n + i] = clock[i * n + i].abs());
     let mut scene = Scene { receptions, clock: Some(clock), altitude: None, reference: Some(random.bits() as i64) };
@@ -282,7 +285,7 @@ fn twice(random: &mut Random) -> Scene {
     }
     let copies: Vec<usize> = (0..n).flat_map(|i| if random.one_in(2) { vec![i, i] } else { vec![i] }).collect();
     scene.receptions = copies.iter().map(|i| scene.receptions[*i]).collect();
-    scene.receptions.iter_mut().enumerate().for_each(|(place, r)| r.identity = place as u64 * 7 + 1);
+    identities::anew(&mut scene.receptions);
     let size = random.of(&[0.0, 1.0, 100.0]);
     let entries = sky::clock(random, copies.len(), size);
     scene.clock = Some(entries);

@@ -7,17 +7,18 @@
 pub mod clock;
 pub mod geo;
 pub mod linalg;
+pub mod obs;
 pub mod solve;
 
 // standing in for what solve.rs takes from elsewhere
 pub mod modes;
-pub mod obs;
 
 pub use at_least::AtLeast;
 mod at_least;
 
 pub mod damage;
 pub mod edges;
+pub mod identities;
 pub mod input;
 pub mod kept;
 pub mod kinds;

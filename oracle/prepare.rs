@@ -1,5 +1,5 @@
-//! prepare SRC OUT: copies solve.rs, linalg.rs, geo.rs and three items of clock.rs from SRC to OUT with the replacements listed here, each asserted
-//! to match as often as it says.
+//! prepare SRC OUT: copies solve.rs, linalg.rs, geo.rs, three items of clock.rs and one of obs.rs from SRC to OUT with the replacements listed here, each
+//! asserted to match as often as it says.
 
 use std::{fs, path::Path, process::exit};
 
@@ -45,18 +45,26 @@ const REPLACEMENTS: [Replacement; 18] = [
     ("solve.rs", "pub struct Problem {", "#[derive(Clone)]\npub struct Problem {", 1, SEEN),
 ];
 
-/// What is taken of clock.rs: from the first text to the end of the second, each asserted to stand there.
-const CLOCK: [(&str, &str); 3] = [
+/// What is taken of a file: from the first text to the end of the second, each asserted to stand there.
+type Items = &'static [(&'static str, &'static str)];
+
+const CLOCK: Items = &[
     ("pub const SPEC_VERSION: u16 = ", ";"),
     ("pub const PS: i128 = ", ";"),
     ("#[derive(Clone, Copy, Debug, PartialEq, Eq)]\npub struct ModelTime {", "\n}"),
 ];
 
+/// With its derived order, which is the order that problems are sorted by.
+const OBS: Items = &[("#[derive(Clone, Copy, Debug, PartialEq, Eq, PartialOrd, Ord, Hash)]\npub struct ObservationId {", "\n}")];
+
+/// For `tally_wire::PublicKey`, which is not there. Document 02: "receiver 32 bytes", "bytes compared as unsigned from the first".
+const PUBLIC_KEY: &str = "pub type PublicKey = [u8; 32];\n\n";
+
 fn read(folder: &Path, name: &str) -> String {
     let path = folder.join(name);
     fs::read_to_string(&path).unwrap_or_else(|error| {
         eprintln!("oracle: {}: {error}", path.display());
-        eprintln!("oracle: SRC is to be the folder of the original Rust in which solve.rs, linalg.rs, geo.rs and clock.rs stand");
+        eprintln!("oracle: SRC is to be the folder of the original Rust in which solve.rs, linalg.rs, geo.rs, clock.rs and obs.rs stand");
         exit(2)
     })
 }
@@ -67,6 +75,20 @@ fn found(text: &str, old: &str, times: usize, of: &str) {
         eprintln!("oracle: {of} has {count} times, not {times}: {}", old.escape_debug());
         exit(1)
     }
+}
+
+/// The items of a file, one after the other.
+fn taken(from: &Path, name: &str, items: Items) -> String {
+    let text = read(from, name);
+    let mut taken = String::new();
+    for (first, last) in items {
+        found(&text, first, 1, name);
+        let rest = &text[text.find(first).expect("it is there")..];
+        let end = rest.find(last).expect("it ends") + last.len();
+        taken += &rest[..end];
+        taken += "\n";
+    }
+    taken
 }
 
 fn main() {
@@ -83,14 +105,6 @@ fn main() {
         }
         fs::write(to.join(name), text).expect("the copy is writable");
     }
-    let clock = read(from, "clock.rs");
-    let mut taken = String::new();
-    for (first, last) in CLOCK {
-        found(&clock, first, 1, "clock.rs");
-        let rest = &clock[clock.find(first).expect("it is there")..];
-        let end = rest.find(last).expect("it ends") + last.len();
-        taken += &rest[..end];
-        taken += "\n";
-    }
-    fs::write(to.join("clock.rs"), taken).expect("the copy is writable");
+    fs::write(to.join("clock.rs"), taken(from, "clock.rs", CLOCK)).expect("the copy is writable");
+    fs::write(to.join("obs.rs"), PUBLIC_KEY.to_string() + &taken(from, "obs.rs", OBS)).expect("the copy is writable");
 }

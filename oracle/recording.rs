@@ -1,17 +1,20 @@
 //! recording OUT LIST: problems with the original's answers, for replaying (kept.rs has the form). In this order: the whole outputs that document 01 states; the edges of edges.rs;
-//! for each kind and answer the first few; rare courses of the rounds, a few of each; and the inputs whose numbers stand in LIST (seed and number of
+//! identities decided by each field; for each kind and answer the first few; rare courses of the rounds, a few of each; and the inputs whose numbers stand in LIST (seed and number of
 //! compare/solve), which tell mutants from the original.
 
 use oracle::damage::{self, KINDS};
 use oracle::edges::{EDGES, SEED};
+use oracle::identities::{PLACES, decided};
 use oracle::input;
 use oracle::kept::{self, Kept};
+use oracle::obs::ObservationId;
 use oracle::random::Random;
 use oracle::record;
-use oracle::scene::{Files, Scene};
+use oracle::scene::{Files, RECEPTION, Scene};
+use oracle::sky;
 use oracle::trace::{Change, Trace, trace};
 
-const MOST_BYTES: usize = 3_000_000;
+const MOST_BYTES: usize = 4_000_000;
 
 #[derive(Default)]
 struct Recording {
@@ -32,7 +35,7 @@ impl Recording {
 }
 
 fn receptions(files: &Files) -> usize {
-    files.receptions.as_ref().map_or(0, |bytes| bytes.len() / 64)
+    files.receptions.as_ref().map_or(0, |bytes| bytes.len() / RECEPTION)
 }
 
 fn whole_outputs(recording: &mut Recording) {
@@ -47,6 +50,30 @@ fn edges(recording: &mut Recording) {
             scenes.iter().for_each(|scene| recording.keep(&scene.files()));
         }
         println!("{name}: {}", numbers.len());
+    }
+}
+
+/// A problem with a fix, its identities ascending by one byte, each pair of neighbours swapped, and one twice: for the places of `PLACES`, and for those of the
+/// receiver with short number and message alike.
+fn identities(recording: &mut Recording) {
+    let mut random = Random::new(SEED);
+    let scene = loop {
+        let scene = sky::sound(&mut random, 4, true).scene;
+        if record::record(&scene.files()).0 == 0 {
+            break scene;
+        }
+    };
+    let mut keep = |names: [ObservationId; 4]| {
+        let mut scene = scene.clone();
+        scene.receptions.iter_mut().zip(names).for_each(|(r, name)| r.identity = name);
+        recording.keep(&scene.files());
+    };
+    let alike = PLACES.iter().filter(|place| **place < 32).map(|place| (*place, true));
+    for (place, alike) in PLACES.iter().map(|place| (*place, false)).chain(alike) {
+        let [a, b, c, d] = decided(place, alike);
+        for names in [[a, b, c, d], [b, a, c, d], [a, c, b, d], [a, b, d, c], [a, b, c, c]] {
+            keep(names);
+        }
     }
 }
 
@@ -120,6 +147,7 @@ fn main() {
     let mut recording = Recording::default();
     whole_outputs(&mut recording);
     edges(&mut recording);
+    identities(&mut recording);
     kinds(&mut recording, 1, 9, 1);
     courses(&mut recording, 2, 25);
     listed(&mut recording, &std::fs::read_to_string(list).expect("the list is readable"));

@@ -1,4 +1,4 @@
-//! A problem as document 01 words it, the bytes of its four files, and the same as solve.rs takes it.
+//! A problem as document 01 words it, with document 02's identities, the bytes of its four files, and the same as solve.rs takes it.
 
 use crate::clock::ModelTime;
 use crate::geo;
@@ -6,9 +6,12 @@ use crate::modes::{Altitude, AltitudeKind};
 use crate::obs::ObservationId;
 use crate::solve::{BARO_SIGMA_M, GNSS_SIGMA_M, Item, Problem};
 
+/// Document 02, item 6: "which makes 132 bytes".
+pub const RECEPTION: usize = 132;
+
 #[derive(Clone, Copy, Debug)]
 pub struct Reception {
-    pub identity: u64,
+    pub identity: ObservationId,
     pub time: i64,
     pub site_mm: [i64; 3],
     pub z: f64,
@@ -42,7 +45,7 @@ impl Scene {
     pub fn files(&self) -> Files {
         let mut receptions = Vec::new();
         for r in &self.receptions {
-            receptions.extend(r.identity.to_le_bytes());
+            receptions.extend(identity_bytes(&r.identity));
             receptions.extend(r.time.to_le_bytes());
             r.site_mm.iter().for_each(|mm| receptions.extend(mm.to_le_bytes()));
             receptions.extend(r.z.to_le_bytes());
@@ -77,9 +80,15 @@ impl Scene {
     }
 }
 
+/// "receiver 32 bytes, epoch u32, timestamp u64, message 32 bytes"
+fn identity_bytes(identity: &ObservationId) -> Vec<u8> {
+    let ObservationId { receiver, epoch, timestamp, message } = identity;
+    [receiver.as_slice(), &epoch.to_le_bytes(), &timestamp.to_le_bytes(), message].concat()
+}
+
 fn item(r: &Reception) -> Item {
     Item {
-        id: ObservationId(r.identity),
+        id: r.identity,
         time: ModelTime { linear: 0, ps: i128::from(r.time), carried_ps: 0 },
         site: geo::from_mm(r.site_mm),
         site_mm: r.site_mm,

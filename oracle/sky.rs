@@ -1,6 +1,7 @@
 //! Sound problems: an aircraft, sites about it, and when each heard it.
 
 use crate::geo::{self, C, Geodetic};
+use crate::identities;
 use crate::linalg::{add, norm, scale, sub};
 use crate::random::Random;
 use crate::scene::{Reception, Scene};
@@ -45,14 +46,13 @@ pub fn heard(random: &mut Random, x: [f64; 3], sites: &[[i64; 3]], noise: &[f64]
     let path = |i: usize| norm(sub(x, geo::from_mm(sites[i]))) + error[i];
     let time = |i: usize| ((start + path(i) / C * 1e12).round() as i64).clamp(0, LAST_TIME);
     let first = (0..sites.len()).map(time).min().unwrap_or(0);
-    let mut identity = random.bits() >> 8;
-    (0..sites.len())
-        .map(|i| {
-            identity += 1 + (random.bits() >> 40);
-            let z = (time(i) - first) as f64 * 1e-12 * C;
-            Reception { identity, time: time(i), site_mm: sites[i], z: z.clamp(0.0, 3e9), noise: noise[i] }
-        })
-        .collect()
+    let family = random.bits();
+    let seeds: Vec<u64> = sites.iter().map(|_| random.bits()).collect();
+    let heard = identities::ascending(family, &seeds).into_iter().enumerate().map(|(i, identity)| {
+        let z = (time(i) - first) as f64 * 1e-12 * C;
+        Reception { identity, time: time(i), site_mm: sites[i], z: z.clamp(0.0, 3e9), noise: noise[i] }
+    });
+    heard.collect()
 }
 
 /// A clock covariance of n receptions, about `size` m² on its diagonal: none at all, one clock in common, or a product of random vectors.

@@ -60,7 +60,7 @@ fn solved(
 
 // The next input, which is input k. Its first eight bytes are read already. A record that ends early differs.
 fn tried(head: &[u8; 8], k: u64) -> Compared {
-    let mut receptions = [0u8; 8192];
+    let mut receptions = [0u8; 16384];
     let mut clock = [0u8; 16384];
     let mut altitude = [0u8; 256];
     let mut reference = [0u8; 256];
