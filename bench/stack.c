@@ -2,6 +2,7 @@
    is solved on a stack that was painted before, and what is not paint afterwards was used. A thread that does nothing shows its own share. */
 #define _GNU_SOURCE
 #include <pthread.h>
+#include <stddef.h>
 #include <stdio.h>
 #include <stdlib.h>
 #include <string.h>
@@ -13,14 +14,24 @@ static uint8_t recording[1 << 22], *at;
 static struct mlat_reception list[1024];
 static enum { BYTES, LIST, NOTHING } way;
 
+/* the receptions of a file, 132 bytes each, as structs of a little-endian machine; how many */
+static size_t unpacked(const uint8_t *bytes, size_t length) {
+    size_t n = length / 132;
+    for (size_t i = 0; i < n; i++, bytes += 132) {
+        uint8_t *to = (uint8_t *)&list[i];
+        memcpy(to, bytes, 36);
+        memcpy(to + offsetof(struct mlat_reception, timestamp), bytes + 36, 96);
+    }
+    return n;
+}
+
 static void *solve(void *unused) {
     uint8_t out[176];
     if (way == NOTHING) return unused;
     size_t receptions = at[0] | at[1] << 8, clock = at[2] | at[3] << 8, altitude = at[4], reference = at[5];
     uint8_t *r = at + 8, *c = r + receptions, *a = c + clock, *f = a + altitude;
-    memcpy(list, r, receptions);
     if (way == BYTES) mlat_solve(r, receptions, c, clock, a, altitude, f, reference, at[6], out, sizeof out);
-    else mlat_solve_receptions(list, receptions / 64, c, clock, a, altitude, f, reference, at[6], out, sizeof out);
+    else mlat_solve_receptions(list, unpacked(r, receptions), c, clock, a, altitude, f, reference, at[6], out, sizeof out);
     at = f + reference + 176;
     return unused;
 }

@@ -1,12 +1,17 @@
 //! The port's solve by its two C names; under `cfg(itself)` the original in their place.
 
 use oracle::scene::Files;
+#[cfg(not(itself))]
+use oracle::scene::RECEPTION;
 
 /// A reception of a caller's list, as `struct mlat_reception` of include/mlat_solver.h.
 #[cfg(not(itself))]
 #[repr(C)]
 struct Reception {
-    id: u64,
+    receiver: [u8; 32],
+    epoch: u32,
+    timestamp: u64,
+    message: [u8; 32],
     time: i64,
     site_mm: [i64; 3],
     z: f64,
@@ -49,24 +54,31 @@ pub fn solve(files: &Files, spare: &[u8], more: u32, out: &mut [u8]) -> u32 {
     }
 }
 
-/// The answer number, receptions as a list of structs: those of the whole 64 bytes.
+#[cfg(not(itself))]
+fn part<const N: usize>(bytes: &[u8], at: usize) -> [u8; N] {
+    bytes[at..at + N].try_into().expect("N bytes")
+}
+
+#[cfg(not(itself))]
+fn reception(bytes: &[u8]) -> Reception {
+    let long = |at: usize| u64::from_le_bytes(part(bytes, at));
+    Reception {
+        receiver: part(bytes, 0),
+        epoch: u32::from_le_bytes(part(bytes, 32)),
+        timestamp: long(36),
+        message: part(bytes, 44),
+        time: long(76) as i64,
+        site_mm: [84, 92, 100].map(|at| long(at) as i64),
+        z: f64::from_bits(long(108)),
+        noise_m2: f64::from_bits(long(116)),
+        filler: long(124),
+    }
+}
+
+/// The answer number, receptions as a list of structs: those of the whole 132 bytes.
 #[cfg(not(itself))]
 pub fn solve_receptions(files: &Files, spare: &[u8], more: u32, out: &mut [u8]) -> u32 {
-    let long = |bytes: &[u8], at: usize| u64::from_le_bytes(bytes[at..at + 8].try_into().expect("eight bytes"));
-    let list: Vec<Reception> = files
-        .receptions
-        .as_deref()
-        .unwrap_or(&[])
-        .chunks_exact(64)
-        .map(|bytes| Reception {
-            id: long(bytes, 0),
-            time: long(bytes, 8) as i64,
-            site_mm: [16, 24, 32].map(|at| long(bytes, at) as i64),
-            z: f64::from_bits(long(bytes, 40)),
-            noise_m2: f64::from_bits(long(bytes, 48)),
-            filler: long(bytes, 56),
-        })
-        .collect();
+    let list: Vec<Reception> = files.receptions.as_deref().unwrap_or(&[]).chunks_exact(RECEPTION).map(reception).collect();
     let (present, [clock, altitude, reference]) = others(files, spare, more);
     unsafe {
         mlat_solve_receptions(

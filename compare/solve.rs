@@ -5,7 +5,7 @@ mod port_solve;
 use oracle::damage::{self, KINDS};
 use oracle::random::Random;
 use oracle::record::{self, LENGTH, SHORT_OUTPUT};
-use oracle::scene::{Files, Scene};
+use oracle::scene::{Files, RECEPTION, Scene};
 use std::io::Write;
 use std::time::Instant;
 
@@ -44,7 +44,7 @@ impl Tally {
         let spare = &spare[..random.below(9)];
         let more = random.bits() as u32 & 0xFFFF;
         let before: Vec<u8> = (0..LENGTH + k as usize % 40).map(|_| random.bits() as u8).collect();
-        let torn = files.receptions.as_ref().is_some_and(|bytes| bytes.len() % 64 != 0);
+        let torn = files.receptions.as_ref().is_some_and(|bytes| bytes.len() % RECEPTION != 0);
         for (way, solve) in &WAYS[..if torn { 1 } else { 2 }] {
             let mut out = before.clone();
             let found = solve(&files, spare, more, &mut out);

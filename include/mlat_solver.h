@@ -98,14 +98,22 @@ double mlat_horizontal_sigma_m(const double position[3], const double covariance
 uint32_t mlat_solve(const uint8_t *receptions, size_t receptions_len, const uint8_t *clock, size_t clock_len, const uint8_t *altitude,
                     size_t altitude_len, const uint8_t *reference, size_t reference_len, uint32_t present, uint8_t *out, size_t out_len);
 
-/* A reception of a caller's own list. It has the 64 bytes of receptions.bin on a little-endian machine, eight for each number, with no padding. */
+/* A reception of a caller's own list, as C lays it out: 136 bytes, of which the four after epoch are padding and may
+   hold anything. In receptions.bin a reception has 132 bytes, the same fields in the same order without padding, so the
+   file is no list: it has to be unpacked. receiver, epoch, timestamp and message are its identity, `ObservationId` of
+   the source. Identities are ordered by these four in turn, the bytes of receiver and message as unsigned from the
+   first, epoch and timestamp as numbers; they are equal where every field is. Ties between receptions are decided by
+   their places in the list, and so by their identities. */
 struct mlat_reception {
-    uint64_t id;        /* above that of the reception before */
-    int64_t time;       /* ps, 0 to 10^13 */
-    int64_t site_mm[3]; /* ECEF, each within 10^10 either way */
-    double z;           /* metres of light after the reference, 0 to 3*10^9 */
-    double noise_m2;    /* 10^-6 to 10^12 */
-    uint64_t filler;    /* zero: any other value is refused, as in the file */
+    uint8_t receiver[32]; /* key of the receiver */
+    uint32_t epoch;       /* epoch of its counter */
+    uint64_t timestamp;   /* its counter */
+    uint8_t message[32];  /* hash of the message; the identity is above that of the reception before */
+    int64_t time;         /* ps, 0 to 10^13 */
+    int64_t site_mm[3];   /* ECEF, each within 10^10 either way */
+    double z;             /* metres of light after the reference, 0 to 3*10^9 */
+    double noise_m2;      /* 10^-6 to 10^12 */
+    uint64_t filler;      /* zero: any other value is refused, as in the file */
 };
 
 /* The same solve with a list of receptions_len structs in place of the bytes of receptions: answer and bytes are what the same definition gives for
