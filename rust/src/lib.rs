@@ -3,7 +3,8 @@
 //! ```no_run
 //! use jifrosk::{Altitude, Problem, Reception, solve};
 //!
-//! let receptions: Vec<Reception> = Vec::new(); // by ascending identity
+//! let mut receptions: Vec<Reception> = Vec::new();
+//! receptions.sort_by_key(|reception| reception.identity);
 //! let clock_m2 = vec![0.0; receptions.len() * receptions.len()];
 //! let problem = Problem { receptions: &receptions, clock_m2: Some(&clock_m2), altitude: Some(Altitude::Barometric(9_144.0)), reference_ps: 0 };
 //! match solve(&problem) {
@@ -33,12 +34,14 @@
 //! [`Fix::to_wire`] has a position as whole numbers, as it is published, and [`Wire::position`] the way back.
 
 mod fix;
+mod reception;
 mod record;
 mod records;
 mod refusal;
 mod wire;
 
 pub use fix::Fix;
+pub use reception::{ObservationId, RECEPTION, Reception};
 pub use record::{Record, read, write};
 pub use records::{Iter, Records};
 pub use refusal::{Field, Refusal};
@@ -46,24 +49,6 @@ pub use wire::{Position, Wire, to_wire};
 
 /// The length of a record.
 pub const RECORD: usize = 176;
-
-/// One reception of the transmission. A slice of them is lent to the solve as it stands.
-#[derive(Clone, Copy, Debug, Default, PartialEq)]
-#[repr(C)]
-pub struct Reception {
-    /// Above that of the reception before.
-    pub identity: u64,
-    /// When it arrived, 0 to 10^13.
-    pub time_ps: i64,
-    /// ECEF, each within ±10^10.
-    pub site_mm: [i64; 3],
-    /// Arrival in metres of light after the reference, 0 to 3·10^9.
-    pub z_m: f64,
-    /// Variance of its own timing, 10^-6 to 10^12.
-    pub noise_m2: f64,
-    /// Zero, as in the file: any other value is refused.
-    pub filler: u64,
-}
 
 /// A reported altitude, metres above the ellipsoid, within ±100,000.
 #[derive(Clone, Copy, Debug, PartialEq)]

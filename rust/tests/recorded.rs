@@ -1,6 +1,6 @@
 //! The recorded answers of the original: through the bytes, through a list of receptions, and through `Problem` where there is one.
 
-use jifrosk::{Altitude, Problem, RECORD, Reception, Record, read, solve, solve_bytes, solve_receptions};
+use jifrosk::{Altitude, ObservationId, Problem, RECEPTION, RECORD, Reception, Record, read, solve, solve_bytes, solve_receptions};
 use std::mem::{align_of, offset_of, size_of};
 
 const RECORDED: &str = concat!(env!("CARGO_MANIFEST_DIR"), "/../crates/replay/stdin");
@@ -53,25 +53,29 @@ fn long(bytes: &[u8], at: usize) -> u64 {
 
 /// The receptions of a file, unless it is torn.
 fn list(file: &[u8]) -> Option<Vec<Reception>> {
-    let reception = |r: &[u8]| Reception {
-        identity: long(r, 0),
-        time_ps: long(r, 8) as i64,
-        site_mm: [16, 24, 32].map(|at| long(r, at) as i64),
-        z_m: f64::from_bits(long(r, 40)),
-        noise_m2: f64::from_bits(long(r, 48)),
-        filler: long(r, 56),
-    };
-    (file.len() % 64 == 0).then(|| file.chunks(64).map(reception).collect())
+    let reception = |bytes: &[u8]| Reception::from_bytes(bytes.try_into().expect("132 bytes"));
+    (file.len() % RECEPTION == 0).then(|| file.chunks(RECEPTION).map(reception).collect())
 }
 
 #[test]
-fn a_reception_is_laid_out_as_in_its_file() {
-    assert_eq!((size_of::<Reception>(), align_of::<Reception>()), (64, 8));
+fn a_reception_is_laid_out_as_in_c() {
+    assert_eq!((size_of::<Reception>(), align_of::<Reception>()), (136, 8));
     let at = [
-        offset_of!(Reception, identity), offset_of!(Reception, time_ps), offset_of!(Reception, site_mm),
-        offset_of!(Reception, z_m), offset_of!(Reception, noise_m2), offset_of!(Reception, filler),
+        offset_of!(ObservationId, receiver), offset_of!(ObservationId, epoch), offset_of!(ObservationId, timestamp), offset_of!(ObservationId, message),
+        offset_of!(Reception, time_ps), offset_of!(Reception, site_mm), offset_of!(Reception, z_m), offset_of!(Reception, noise_m2), offset_of!(Reception, filler),
     ];
-    assert_eq!(at, [0, 8, 16, 40, 48, 56]);
+    assert_eq!(at, [0, 32, 40, 48, 80, 88, 112, 120, 128]);
+    assert_eq!(offset_of!(Reception, identity), 0);
+}
+
+#[test]
+fn receptions_are_written_as_they_were_read() {
+    let bytes = recording();
+    for problem in recorded(&bytes) {
+        let Some(receptions) = list(problem.files[0]) else { continue };
+        let again: Vec<u8> = receptions.iter().flat_map(Reception::to_bytes).collect();
+        assert_eq!(again, problem.files[0]);
+    }
 }
 
 #[test]
