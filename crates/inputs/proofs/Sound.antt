@@ -134,7 +134,9 @@ module _ (n : ℕ) (from : ℕ → Reception) (g : Given) (b alt ref : List ℕ)
     climbs i (suc d) h =
         let e : suc i + suc d ≡ suc (suc i + d) = omega arith in
         let last = suc i + d in
-        rw e (identities-ordered .transitive (from i .id) (from last .id) (from (suc last) .id) (climbs i d (omega (arith, h))) (next-above last (omega (arith, h))))
+        rw e
+        (identities-ordered .transitive (from i .id) (from last .id) (from (suc last) .id)
+        (climbs i d (omega (arith, h))) (next-above last (omega (arith, h))))
 
     pub ascending : Ascending from n
     ascending i j l h = let e : suc i + (j - suc i) ≡ j = omega (arith, l) in rw e at (climbs i (j - suc i) (omega (arith, l, h)))

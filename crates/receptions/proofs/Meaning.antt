@@ -4,7 +4,8 @@ use mathlib.Core.Bool.{false}
 use Rattle.receptions.specs.declared.ObservationId.{ObservationId}
 use Rattle.receptions.specs.Identities.{compareNumbers, compareBytes, compare, isLess, before}
 use Rattle.receptions.specs.Meaning.{StrictTotal, IdentitiesOrdered, EqualInEveryField, FourInTurn}
-use Rattle.receptions.proofs.Ordered.{turn-said, turn-meant, numbers-lt, lt-numbers, numbers-ordered, bytes-ordered, message, timestamp, epoch, is-less, not-before-self, before-through, neither-before}
+use Rattle.receptions.proofs.Ordered.{turn-said, turn-meant, numbers-lt, lt-numbers, numbers-ordered, bytes-ordered, message, timestamp, epoch}
+use Rattle.receptions.proofs.Ordered.{is-less, not-before-self, before-through, neither-before}
 use Rattle.receptions.proofs.Bytes.{less-said, less-meant}
 
 pub identities-ordered : IdentitiesOrdered
@@ -12,10 +13,16 @@ identities-ordered = record { irreflexive = not-before-self; transitive = before
 
 pub equal-in-every-field : EqualInEveryField
 equal-in-every-field a b = (
-  λ h. let e = neither-before a b (h .0) (h .1) in
-      (ap (λ (x : ObservationId). x .receiver) e, ap (λ (x : ObservationId). x .epoch) e, ap (λ (x : ObservationId). x .timestamp) e, ap (λ (x : ObservationId). x .message) e),
-  λ h. let e : a ≡ b = λ i. record { receiver = h .0 i; epoch = h .1 i; timestamp = h .2 i; message = h .3 i } in
-      (subst (λ (x : ObservationId). before a x ≡ false) e (not-before-self a), subst (λ (x : ObservationId). before x a ≡ false) e (not-before-self a)),
+  λ h. let e = neither-before a b (h .0) (h .1) in (
+    ap (λ (x : ObservationId). x .receiver) e,
+    ap (λ (x : ObservationId). x .epoch) e,
+    ap (λ (x : ObservationId). x .timestamp) e,
+    ap (λ (x : ObservationId). x .message) e,
+  ),
+  λ h. let e : a ≡ b = λ i. record { receiver = h .0 i; epoch = h .1 i; timestamp = h .2 i; message = h .3 i } in (
+    subst (λ (x : ObservationId). before a x ≡ false) e (not-before-self a),
+    subst (λ (x : ObservationId). before x a ≡ false) e (not-before-self a),
+  ),
 )
 
 pub four-in-turn : FourInTurn

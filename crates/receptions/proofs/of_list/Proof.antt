@@ -1,6 +1,6 @@
--- `receptions::of_list` meets its contract: a walk of its MIR, by hand. In the loop the local list lies in memory element by element, and each turn copies one struct whole from the
--- caller's list to it, 136 i bytes past each pointer. The loop's state is the index and the local list, which begins with the receptions so far (`begins-next`). Then the list is whole
--- again, and `by_field` is called with it. Assumes nothing.
+-- `receptions::of_list` meets its contract: a walk of its MIR, by hand. In the loop the local list lies in memory element by element, and each turn
+-- copies one struct whole from the caller's list to it, 136 i bytes past each pointer. The loop's state is the index and the local list, which
+-- begins with the receptions so far (`begins-next`). Then the list is whole again, and `by_field` is called with it. Assumes nothing.
 use mathlib.Core.Path.{_≡_, refl, sym, subst, _∙_}
 use mathlib.Core.List.{List, [], _∷_}
 use Prim.Native.Nat.{ℕ, _+_, _*_, _-_, _<_, _≤_, _^_}

@@ -43,7 +43,8 @@ problem-of-requires c κs =
     let given : Inputs = lent s f (eqb (length bytes % receptionBytes) 0) in
     let e : checkInputs given ≡ Passed = sym (c .before .before .check-inputs .ensures) ∙ is-passed (c .before .before .check-inputs .result) (c .before .match .keys2) in
     let n = length bytes / receptionBytes in
-    (nothing-else f n (receptionAt bytes) (c .before .before .before .unpacked .ensures) (few given e), subst (λ (w : Bool). checkInputs (lent s f w) ≡ Passed) (is-whole given e) e)
+    let passed = subst (λ (w : Bool). checkInputs (lent s f w) ≡ Passed) (is-whole given e) e in
+    (nothing-else f n (receptionAt bytes) (c .before .before .before .unpacked .ensures) (few given e), passed)
 
 problem-requires : tie.Need-problem-requires
 problem-requires c κs = search needs

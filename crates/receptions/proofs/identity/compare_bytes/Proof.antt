@@ -36,7 +36,8 @@ returns c =
     let k = turn .loop .k in
     let below = test .before .loop-test .taken in
     c .compare-byte .ensures
-    ∙ bytes-differ a b k (omega (arith, below, start .good .0 .1 .0 .1)) (omega (arith, below, start .good .1 .0 .1 .0 .1)) (turn .loop .inv .1) (test .if1 .taken)
+    ∙ bytes-differ a b k (omega (arith, below, start .good .0 .1 .0 .1)) (omega (arith, below, start .good .1 .0 .1 .0 .1))
+    (turn .loop .inv .1) (test .if1 .taken)
 
 add-k : tie.Need-add-k Inv-loop μ-loop
 add-k c = search needs
@@ -53,7 +54,8 @@ returns-2 : tie.Need-returns-2 Inv-loop μ-loop
 returns-2 c =
     let start = c .before .before in
     let all = start .good .0 .1 .0 .1 in
-    bytes-alike (start .args .t1) (start .args .t2) (all ∙ sym (start .good .1 .0 .1 .0 .1)) (λ j h. c .before .loop .inv .1 j (omega (arith, h, all)))
+    bytes-alike (start .args .t1) (start .args .t2) (all ∙ sym (start .good .1 .0 .1 .0 .1))
+    (λ j h. c .before .loop .inv .1 j (omega (arith, h, all)))
 
 pub compare-bytes-spec : {M : Type 1} → statement M
 compare-bytes-spec =
