@@ -1,5 +1,7 @@
--- The laws that the proofs share: where entries lie, what a solve leaves as it was, the columns of a factor, unit vectors.
+-- The laws that the proofs share: where entries lie, what a solve leaves as it was, the columns of a factor, unit vectors; and
+-- that the inverse is symmetric.
 pub mod Places
 pub mod Keeps
 pub mod Columns
 pub mod Units
+pub mod Symmetry

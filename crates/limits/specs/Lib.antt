@@ -1,3 +1,4 @@
 pub mod Heights
 pub mod Limits
 pub mod Local
+pub mod Mirrored
