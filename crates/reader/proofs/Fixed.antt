@@ -1,11 +1,12 @@
 -- A fix that is written is read back: every field, from the record's table (`reads`). Assumes nothing.
 use Prim.Native.Nat.{ℕ, _+_, _%_, _^_, _<_, _≤_}
 use mathlib.Core.Path.{_≡_, refl, sym, ap, _∙_}
+use mathlib.Core.Bool.{true}
 use mathlib.Core.List.{List, [], _∷_, _++_}
 use native.Mathlib.Omega.{arith}
 use lib.Dec.{T, lit≤, lit<}
 use lib.IntN.{ℤ}
-use lib.ListN.{length, getD, set, length-replicate}
+use lib.ListN.{length, drop, getD, set, length-replicate}
 use lib.Ieee.{Float, binary64, fits, toBits}
 use lib.Ieee.Bits.{ofBits-toBits, toBits-lt}
 use mir.Syntax.{w64}
@@ -14,6 +15,7 @@ use mir.ValLaws.{toZ-ofZ, ofZ-fits}
 use Rattle.binary64.specs.Steps.{#}
 use Rattle.dense.specs.Entries.{nth}
 use Rattle.words.specs.Words.{wordAt, putWord, u32At, u64At, i64At, f64At, putU16, putU32, putU64, putI64, putF64}
+use Rattle.words.proofs.Back.{lowest, lowest-whole}
 use Rattle.problem.specs.declared.Altitude.{Altitude}
 use Rattle.problem.specs.declared.Altitude.the-variants.{None, Barometric, Gnss}
 use Rattle.record.specs.declared.content.Fix.{Fix}
@@ -22,7 +24,7 @@ use Rattle.reader.specs.declared.content.Content.{Content}
 use Rattle.reader.specs.Read.{threeAt, altitudeOf, fixed}
 use Rattle.reader.specs.Meaning.{HeldThree, HeldFix}
 use Rattle.reader.proofs.Assembled.{fix-fields, content-fields}
-use Rattle.reader.proofs.Table.{Word, word, putAll, Apart, done, next, Reads, reads, first-read, rest-read}
+use Rattle.reader.proofs.Table.{Word, word, putAll, apart, Reads, reads, first-read, whole-read, later-read}
 
 abbrev pub bits : Float → ℕ
 bits x = toBits binary64 x
@@ -51,7 +53,7 @@ byte-put : (r : List ℕ) (k x : ℕ) → x < 256 → set r k x ≡ putWord 1 r 
 unfolding putWord
 byte-put r k x h = let e : x % 256 ≡ x = omega arith in rw e
 
-kind-lt : (alt : Altitude) → kind alt < 256
+pub kind-lt : (alt : Altitude) → kind alt < 256
 kind-lt None = lit< tt
 kind-lt (Barometric m) = lit< tt
 kind-lt (Gnss m) = lit< tt
@@ -69,9 +71,12 @@ pub fix-table : (n : ℕ) (alt : Altitude) (f : Fix) → fix n alt f ≡ putAll 
 unfolding fix table putAll putU16 putU32 putU64 putI64 putF64
 fix-table n alt f = foot-table (putAll blank (front n f)) alt
 
-f64-back : (s : List ℕ) (k : ℕ) (x : Float) → wordAt 8 s k ≡ bits x → T (fits binary64 x) → x ≡ f64At s k
+bits-lt : (x : Float) → T (fits binary64 x) → bits x < 256 ^ 8
+bits-lt x h = toBits-lt binary64 x h
+
+pub f64-back : (s : List ℕ) (k : ℕ) (x : Float) → wordAt 8 s k ≡ lowest 8 (bits x) → T (fits binary64 x) → x ≡ f64At s k
 unfolding f64At u64At
-f64-back s k x e h = sym (ap # e ∙ ofBits-toBits binary64 x h)
+f64-back s k x e h = sym (ap # (e ∙ lowest-whole 8 (bits x) (bits-lt x h)) ∙ ofBits-toBits binary64 x h)
 
 three-list : (v : List Float) → length v ≡ 3 → nth v 0 ∷ nth v 1 ∷ nth v 2 ∷ [] ≡ v
 three-list [] e = absurd (omega arith)
@@ -82,7 +87,8 @@ three-list (a ∷ b ∷ c ∷ d ∷ v) e = absurd (omega arith)
 
 three-back
     : (s : List ℕ) (k : ℕ) (v : List Float) → HeldThree v
-    → wordAt 8 s k ≡ bits (nth v 0) → wordAt 8 s (k + 8) ≡ bits (nth v 1) → wordAt 8 s (k + 16) ≡ bits (nth v 2)
+    → wordAt 8 s k ≡ lowest 8 (bits (nth v 0)) → wordAt 8 s (k + 8) ≡ lowest 8 (bits (nth v 1))
+    → wordAt 8 s (k + 16) ≡ lowest 8 (bits (nth v 2))
     → v ≡ threeAt s k
 three-back s k v h x y z =
     sym (three-list v (h .size)) ∙ rw (f64-back s k (nth v 0) x (h .x), f64-back s (k + 8) (nth v 1) y (h .y), f64-back s (k + 16) (nth v 2) z (h .z))
@@ -95,92 +101,42 @@ i64-back : (s : List ℕ) (k : ℕ) (x : ℤ) → wordAt 8 s k ≡ ofZ w64 x →
 unfolding i64At u64At
 i64-back s k x e h = sym (ap (toZ w64) e ∙ toZ-ofZ w64 x h)
 
-byte-back : (s : List ℕ) (k x : ℕ) → wordAt 1 s k ≡ x → getD s k 0 ≡ x
+pub byte-back : (s : List ℕ) (k x : ℕ) → wordAt 1 s k ≡ x → getD s k 0 ≡ x
 unfolding wordAt
 byte-back s k x e = omega arith
 
-bits-lt : (x : Float) → T (fits binary64 x) → bits x < 256 ^ 8
-bits-lt x h = toBits-lt binary64 x h
-
-module _ (n : ℕ) (alt : Altitude) (f : Fix) (few : n < 2 ^ 32) (h : HeldFix f) (m : T (fits binary64 (metres alt))) where
-  apart : Apart 176 0 (table n alt f)
-  unfolding table
-  apart =
-      next (lit≤ tt) (lit≤ tt) (lit< tt)
-      (next (lit≤ tt) (lit≤ tt) (h .dof)
-      (next (lit≤ tt) (lit≤ tt) few
-      (next (lit≤ tt) (lit≤ tt) (h .mask)
-      (next (lit≤ tt) (lit≤ tt) (bits-lt _ (h .ecef .x))
-      (next (lit≤ tt) (lit≤ tt) (bits-lt _ (h .ecef .y))
-      (next (lit≤ tt) (lit≤ tt) (bits-lt _ (h .ecef .z))
-      (next (lit≤ tt) (lit≤ tt) (bits-lt _ (h .t))
-      (next (lit≤ tt) (lit≤ tt) (bits-lt _ (h .lat))
-      (next (lit≤ tt) (lit≤ tt) (bits-lt _ (h .lon))
-      (next (lit≤ tt) (lit≤ tt) (bits-lt _ (h .height))
-      (next (lit≤ tt) (lit≤ tt) (ofZ-fits w64 _ (h .ps) .fits)
-      (next (lit≤ tt) (lit≤ tt) (bits-lt _ (h .r0 .x))
-      (next (lit≤ tt) (lit≤ tt) (bits-lt _ (h .r0 .y))
-      (next (lit≤ tt) (lit≤ tt) (bits-lt _ (h .r0 .z))
-      (next (lit≤ tt) (lit≤ tt) (bits-lt _ (h .r1 .x))
-      (next (lit≤ tt) (lit≤ tt) (bits-lt _ (h .r1 .y))
-      (next (lit≤ tt) (lit≤ tt) (bits-lt _ (h .r1 .z))
-      (next (lit≤ tt) (lit≤ tt) (bits-lt _ (h .r2 .x))
-      (next (lit≤ tt) (lit≤ tt) (bits-lt _ (h .r2 .y))
-      (next (lit≤ tt) (lit≤ tt) (bits-lt _ (h .r2 .z))
-      (next (lit≤ tt) (lit≤ tt) (bits-lt _ (h .chi2))
-      (next (lit≤ tt) (lit≤ tt) (lit< tt)
-      (next (lit≤ tt) (lit≤ tt) (kind-lt alt)
-      (next (lit≤ tt) (lit≤ tt) (bits-lt _ m) done))))))))))))))))))))))))
+-- every word of it lies apart, whatever the numbers are
+module _ (n : ℕ) (alt : Altitude) (f : Fix) where
+  table-apart : apart 176 0 (table n alt f) ≡ true
+  unfolding table front apart
+  table-apart = refl
 
   pub table-read : Reads (fix n alt f) (table n alt f)
-  table-read = rw (fix-table n alt f) (reads 176 (table n alt f) blank 0 (length-replicate {A = ℕ} 176 0) apart)
+  table-read = rw (fix-table n alt f) (reads 176 (table n alt f) blank 0 (length-replicate {A = ℕ} 176 0) table-apart)
 
   pub answer-read : u32At (fix n alt f) 0 ≡ 0
   unfolding table front
-  answer-read = sym (u32-back (fix n alt f) 0 0 (first-read table-read))
+  answer-read = sym (u32-back (fix n alt f) 0 0 (whole-read table-read (lit< tt)))
 
+module _ (n : ℕ) (alt : Altitude) (f : Fix) (few : n < 2 ^ 32) (h : HeldFix f) (m : T (fits binary64 (metres alt))) where
   pub fix-read : _≡_ {A = Content} (record { answer = 0; detail = f .dof; n = n; altitude = alt; fix = f }) (fixed (fix n alt f))
   unfolding table front
   fix-read =
       let s = fix n alt f in
-      let a = table-read in
-      let b = rest-read a in
-      let c = rest-read b in
-      let d = rest-read c in
-      let e0 = rest-read d in
-      let e1 = rest-read e0 in
-      let e2 = rest-read e1 in
-      let t = rest-read e2 in
-      let la = rest-read t in
-      let lo = rest-read la in
-      let he = rest-read lo in
-      let ps = rest-read he in
-      let p0 = rest-read ps in
-      let p1 = rest-read p0 in
-      let p2 = rest-read p1 in
-      let q0 = rest-read p2 in
-      let q1 = rest-read q0 in
-      let q2 = rest-read q1 in
-      let v0 = rest-read q2 in
-      let v1 = rest-read v0 in
-      let v2 = rest-read v1 in
-      let ch = rest-read v2 in
-      let ve = rest-read ch in
-      let ki = rest-read ve in
-      let me = rest-read ki in
-      let detail = u32-back s 4 (f .dof) (first-read b) in
-      content-fields s detail (u32-back s 8 n (first-read c))
-      (sym (byte-back s 162 (kind alt) (first-read ki)))
-      (f64-back s 168 (metres alt) (first-read me) m)
+      let at : (i : ℕ) → Reads s (drop i (table n alt f)) = λ i. later-read i (table-read n alt f) in
+      let detail = u32-back s 4 (f .dof) (whole-read (at 1) (h .dof)) in
+      content-fields s detail (u32-back s 8 n (whole-read (at 2) few))
+      (sym (byte-back s 162 (kind alt) (whole-read (at 23) (kind-lt alt))))
+      (f64-back s 168 (metres alt) (first-read (at 24)) m)
       (altitude-back alt)
-      (fix-fields s (u32-back s 12 (f .mask) (first-read d)) detail
-      (three-back s 16 (f .ecef) (h .ecef) (first-read e0) (first-read e1) (first-read e2))
-      (f64-back s 40 (f .t) (first-read t) (h .t))
-      (f64-back s 48 (f .position .«lat_deg») (first-read la) (h .lat))
-      (f64-back s 56 (f .position .«lon_deg») (first-read lo) (h .lon))
-      (f64-back s 64 (f .position .«height_m») (first-read he) (h .height))
-      (i64-back s 72 (f .«transmit_ps») (first-read ps) (h .ps))
-      (three-back s 80 (f .r0) (h .r0) (first-read p0) (first-read p1) (first-read p2))
-      (three-back s 104 (f .r1) (h .r1) (first-read q0) (first-read q1) (first-read q2))
-      (three-back s 128 (f .r2) (h .r2) (first-read v0) (first-read v1) (first-read v2))
-      (f64-back s 152 (f .chi2) (first-read ch) (h .chi2)))
+      (fix-fields s (u32-back s 12 (f .mask) (whole-read (at 3) (h .mask))) detail
+      (three-back s 16 (f .ecef) (h .ecef) (first-read (at 4)) (first-read (at 5)) (first-read (at 6)))
+      (f64-back s 40 (f .t) (first-read (at 7)) (h .t))
+      (f64-back s 48 (f .position .«lat_deg») (first-read (at 8)) (h .lat))
+      (f64-back s 56 (f .position .«lon_deg») (first-read (at 9)) (h .lon))
+      (f64-back s 64 (f .position .«height_m») (first-read (at 10)) (h .height))
+      (i64-back s 72 (f .«transmit_ps») (whole-read (at 11) (ofZ-fits w64 _ (h .ps) .fits)) (h .ps))
+      (three-back s 80 (f .r0) (h .r0) (first-read (at 12)) (first-read (at 13)) (first-read (at 14)))
+      (three-back s 104 (f .r1) (h .r1) (first-read (at 15)) (first-read (at 16)) (first-read (at 17)))
+      (three-back s 128 (f .r2) (h .r2) (first-read (at 18)) (first-read (at 19)) (first-read (at 20)))
+      (f64-back s 152 (f .chi2) (first-read (at 21)) (h .chi2)))

@@ -11,3 +11,4 @@ pub mod Writing
 pub mod Table
 pub mod Fixed
 pub mod Value
+pub mod Shown

@@ -22,7 +22,7 @@ use Rattle.reader.specs.Tests.{zeros, goodN, meetsRules}
 use Rattle.reader.specs.Read.{threeAt, altitudeOf, fixAt, noThree, noFix, refused, contentAt, bytesOf, alone, readable}
 use Rattle.reader.specs.Meaning.{Bytes, Held}
 use Rattle.reader.proofs.Tests.{both-true, zeros-at}
-use Rattle.reader.proofs.Table.{Word, word, putAll, done, next, Reads, reads, first-read, rest-read}
+use Rattle.reader.proofs.Table.{Word, word, putAll, apart, Reads, reads, whole-read, later-read}
 use Rattle.reader.proofs.Assembled.{fix-fields, content-fixed, content-refused}
 use Rattle.reader.proofs.Round.{n-shown}
 use Rattle.reader.proofs.Fixed.{table, fix-table, u32-back, answer-read, fix-read}
@@ -51,7 +51,7 @@ unfolding putAll
 put-all-bytes [] r b = b
 put-all-bytes (word w k x ∷ ws) r b = put-all-bytes ws (putWord w r k x) (put-bytes w r k x b)
 
-zero-at : (n j : ℕ) → _≡_ {A = ℕ} (getD (replicate n 0) j 0) 0
+pub zero-at : (n j : ℕ) → _≡_ {A = ℕ} (getD (replicate n 0) j 0) 0
 zero-at zero j = refl
 zero-at (suc n) zero = refl
 zero-at (suc n) (suc j) = zero-at n j
@@ -64,36 +64,42 @@ blank-length = length-replicate {A = ℕ} 176 0
 
 -- ---- a refusal
 
-unfoldable heads : ℕ → ℕ → ℕ → List Word
+unfoldable pub heads : ℕ → ℕ → ℕ → List Word
 heads a d n = word 4 0 a ∷ word 4 4 d ∷ word 4 8 n ∷ []
 
-refusal-table : (a d n : ℕ) → refusal a d n ≡ putAll blank (heads a d (cond (leb a 9) n 0))
+pub refusal-table : (a d n : ℕ) → refusal a d n ≡ putAll blank (heads a d (cond (leb a 9) n 0))
 unfolding refusal putU32 putAll heads
 refusal-table a d n = refl
 
 same-refused : {a b c d e f : ℕ} → a ≡ d → b ≡ e → c ≡ f → refused a b c ≡ refused d e f
 same-refused p q r = rw (p, q, r)
 
+heads-apart : (a d n : ℕ) → apart 176 0 (heads a d n) ≡ true
+unfolding heads apart
+heads-apart a d n = refl
+
+pub heads-read : (a d n : ℕ) → Reads (refusal a d n) (heads a d (cond (leb a 9) n 0))
+heads-read a d n =
+    let m = cond (leb a 9) n 0 in
+    rw (refusal-table a d n) (reads 176 (heads a d m) blank 0 blank-length (heads-apart a d m))
+
 module _ (a d n : ℕ) (ha : a < 2 ^ 32) (hd : d < 2 ^ 32) (hn : n < 2 ^ 32) (good : goodN a n ≡ true) where
   refusal-words : Reads (refusal a d n) (heads a d n)
-  unfolding heads goodN
-  refusal-words =
-      rw (refusal-table a d n, n-shown (leb a 9) n good)
-      (reads 176 (word 4 0 a ∷ word 4 4 d ∷ word 4 8 n ∷ []) blank 0 blank-length
-      (next (lit≤ tt) (lit≤ tt) ha (next (lit≤ tt) (lit≤ tt) hd (next (lit≤ tt) (lit≤ tt) hn done))))
+  unfolding goodN
+  refusal-words = rw (n-shown (leb a 9) n good) at (heads-read a d n)
 
   refusal-read : (a ≡ 0 → ⊥) → refused a d n ≡ contentAt (refusal a d n)
   unfolding heads
   refusal-read z =
       let s = refusal a d n in
-      let ea : a ≡ u32At s 0 = u32-back s 0 a (first-read refusal-words) in
-      let ed : d ≡ u32At s 4 = u32-back s 4 d (first-read (rest-read refusal-words)) in
-      let en : n ≡ u32At s 8 = u32-back s 8 n (first-read (rest-read (rest-read refusal-words))) in
+      let ea : a ≡ u32At s 0 = u32-back s 0 a (whole-read refusal-words ha) in
+      let ed : d ≡ u32At s 4 = u32-back s 4 d (whole-read (later-read 1 refusal-words) hd) in
+      let en : n ≡ u32At s 8 = u32-back s 8 n (whole-read (later-read 2 refusal-words) hn) in
       same-refused ea ed en ∙ content-refused s (λ e. z (ea ∙ e))
 
 -- ---- a fix that would be written as zero bytes is none
 
-zero-word : (w : ℕ) (s : List ℕ) (k : ℕ) → ((j : ℕ) → k ≤ j → j < k + w → getD s j 0 ≡ 0) → wordAt w s k ≡ 0
+pub zero-word : (w : ℕ) (s : List ℕ) (k : ℕ) → ((j : ℕ) → k ≤ j → j < k + w → getD s j 0 ≡ 0) → wordAt w s k ≡ 0
 unfolding wordAt
 zero-word zero s k z = refl
 zero-word (suc w) s k z = rw (z k (omega arith) (omega arith), zero-word w s (k + 1) (λ j a b. z j (omega arith) (omega arith)))
@@ -160,7 +166,7 @@ module _ (v : Content) (h : Held v) where
       let s = fix (v .n) (v .altitude) (v .fix) in
       same-content (eqb-true (v .answer) 0 e) (eqb-true (v .detail) (v .fix .dof) g) refl refl
       ∙ fix-read (v .n) (v .altitude) (v .fix) (h .n) (h .fix) (h .metres)
-      ∙ content-fixed s (answer-read (v .n) (v .altitude) (v .fix) (h .n) (h .fix) (h .metres))
+      ∙ content-fixed s (answer-read (v .n) (v .altitude) (v .fix))
   by-answer false e g =
       let t = both-true (goodN (v .answer) (v .n)) (alone v) g in
       let u = alone-nothing (t .1) in
@@ -174,17 +180,30 @@ module _ (v : Content) (h : Held v) where
       let t = both-true (meetsRules (bytesOf v)) more e in
       (t .0, by-answer (eqb (v .answer) 0) refl (t .1))
 
-module _ (v : Content) where
-  abbrev shown : List Word
-  shown = heads (v .answer) (v .detail) (cond (leb (v .answer) 9) (v .n) 0)
+-- ---- 176 bytes
 
+module _ (n : ℕ) (alt : Altitude) (f : Fix) where
+  pub fix-sized : length (fix n alt f) ≡ 176
+  fix-sized = rw (fix-table n alt f) (put-all-length (table n alt f) blank ∙ blank-length)
+
+  pub fix-bytes : Bytes (fix n alt f)
+  fix-bytes = rw (fix-table n alt f) (put-all-bytes (table n alt f) blank blank-bytes)
+
+module _ (a d n : ℕ) where
+  pub refusal-sized : length (refusal a d n) ≡ 176
+  refusal-sized = rw (refusal-table a d n) (put-all-length (heads a d (cond (leb a 9) n 0)) blank ∙ blank-length)
+
+  pub refusal-bytes : Bytes (refusal a d n)
+  refusal-bytes = rw (refusal-table a d n) (put-all-bytes (heads a d (cond (leb a 9) n 0)) blank blank-bytes)
+
+module _ (v : Content) where
   sized : (b : Bool) → length (cond b (fix (v .n) (v .altitude) (v .fix)) (refusal (v .answer) (v .detail) (v .n))) ≡ 176
-  sized true = rw (fix-table (v .n) (v .altitude) (v .fix)) (put-all-length (table (v .n) (v .altitude) (v .fix)) blank ∙ blank-length)
-  sized false = rw (refusal-table (v .answer) (v .detail) (v .n)) (put-all-length shown blank ∙ blank-length)
+  sized true = fix-sized (v .n) (v .altitude) (v .fix)
+  sized false = refusal-sized (v .answer) (v .detail) (v .n)
 
   of-bytes : (b : Bool) → Bytes (cond b (fix (v .n) (v .altitude) (v .fix)) (refusal (v .answer) (v .detail) (v .n)))
-  of-bytes true = rw (fix-table (v .n) (v .altitude) (v .fix)) (put-all-bytes (table (v .n) (v .altitude) (v .fix)) blank blank-bytes)
-  of-bytes false = rw (refusal-table (v .answer) (v .detail) (v .n)) (put-all-bytes shown blank blank-bytes)
+  of-bytes true = fix-bytes (v .n) (v .altitude) (v .fix)
+  of-bytes false = refusal-bytes (v .answer) (v .detail) (v .n)
 
   pub bytes-sized : length (bytesOf v) ≡ 176
   unfolding bytesOf

@@ -95,7 +95,7 @@ has-mask S (suc n) zero h =
 has-mask S (suc n) (suc j) h =
     has-suc (maskOf S (suc n)) j ∙ ap (λ (m : ℕ). has m j) (ap (λ (m : ℕ). m / 2) (mask-low S n) ∙ omega (arith, bit-le (S 0))) ∙ has-mask (λ i. S (suc i)) n j (omega arith)
 
-mask-lt : (S : Subset) (n : ℕ) → maskOf S n < 2 ^ n
+pub mask-lt : (S : Subset) (n : ℕ) → maskOf S n < 2 ^ n
 unfolding maskOf
 mask-lt S zero = omega arith
 mask-lt S (suc n) = go (S n) (mask-lt S n)
