@@ -101,7 +101,7 @@ tested : (kind : ℕ) (metres : Float) → goodAltitude kind metres ≡ true →
 unfolding goodAltitude
 tested kind metres e = both-of (eqb kind 1 || eqb kind 2) (goodMetres metres) e .1
 
-metres-good : (alt : Option (List ℕ)) → checkAltitude alt ≡ Passed → altitudeGood (altitudeOf alt) ≡ true
+pub metres-good : (alt : Option (List ℕ)) → checkAltitude alt ≡ Passed → altitudeGood (altitudeOf alt) ≡ true
 metres-good none e = refl
 metres-good (some a) e = go (eqb (u64At a 0) 1) (tested (u64At a 0) (f64At a 8) (good-of (goodAltitude (u64At a 0) (f64At a 8)) (BadField 200) e))
   where
