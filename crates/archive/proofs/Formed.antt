@@ -34,7 +34,8 @@ two p s k = rw (append-assoc, ← joined s k 8 8)
 three : (p s : List ℕ) (k : ℕ) → p ++ part s k 24 ≡ p ++ part s k 8 ++ part s (k + 8) 8 ++ part s (k + 16) 8
 three p s k =
     let e : k + 8 + 8 ≡ k + 16 = omega arith in
-    rw (append-assoc (p ++ part s k 8) (part s (k + 8) 8) (part s (k + 16) 8), append-assoc p (part s k 8) _, ← e, joined s (k + 8) 8 8, joined s k 8 16)
+    rw (append-assoc (p ++ part s k 8) (part s (k + 8) 8) (part s (k + 16) 8), append-assoc p (part s k 8) _)
+    (rw (← e, joined s (k + 8) 8 8, joined s k 8 16))
 
 module _ (s d₀ d₁ d₂ d₃ d₄ d₅ : List ℕ) (sized : length s ≡ 176) (room : length d₀ ≡ 152) where
   pub new-form
@@ -79,5 +80,7 @@ module _ (a d₀ d₁ d₂ d₃ d₄ d₅ d₆ d₇ d₈ : List ℕ) (sized : le
       let b₇ = next 176 d₆ d₇ a _ 144 120 8 b₆ (omega arith) (omega arith) e₇ in
       let b₈ = next 176 d₇ d₈ a _ 152 128 24 b₇ (omega arith) (omega arith) e₈ in
       whole 176 d₈ _ b₈
-      ∙ ap (λ (p : List ℕ). p ++ part a 88 8 ++ part a 104 16 ++ part a 96 8 ++ part a 112 8 ++ part a 120 8 ++ part a 128 24) (three (part a 0 80) a 80)
-      ∙ ap (λ (p : List ℕ). p ++ part a 96 8 ++ part a 112 8 ++ part a 120 8 ++ part a 128 24) (two (part a 0 80 ++ part a 80 8 ++ part a 88 8 ++ part a 96 8 ++ part a 88 8) a 104)
+      ∙ ap (λ (p : List ℕ). p ++ part a 88 8 ++ part a 104 16 ++ part a 96 8 ++ part a 112 8 ++ part a 120 8 ++ part a 128 24)
+      (three (part a 0 80) a 80)
+      ∙ ap (λ (p : List ℕ). p ++ part a 96 8 ++ part a 112 8 ++ part a 120 8 ++ part a 128 24)
+      (two (part a 0 80 ++ part a 80 8 ++ part a 88 8 ++ part a 96 8 ++ part a 88 8) a 104)

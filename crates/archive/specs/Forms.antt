@@ -1,4 +1,4 @@
--- Document 02, item 7: a fix record in the old form of 176 bytes and in the archive's new form of 152. Definitions only.
+-- Document 02, item 7: a fix record in the old form, 176 bytes, and in the archive's new one, 152. Definitions only.
 use Prim.Native.Nat.{ℕ, _+_, _*_}
 use mathlib.Core.List.{List, _++_}
 use lib.ListN.{take, drop}
@@ -21,8 +21,9 @@ entry s i j = part s (entryAt i j) 8
 abbrev pub bits : List ℕ → ℕ → ℕ → ℕ
 bits s i j = u64At s (entryAt i j)
 
--- ---- the new form: "bytes 80 to 127 hold the entries on and right of the diagonal, by rows, and the last 24 bytes follow"
+-- ---- the new form
 
+-- "bytes 80 to 127 hold the entries on and right of the diagonal, by rows, and the last 24 bytes follow"
 unfoldable pub newForm : List ℕ → List ℕ
 newForm s =
     part s 0 80
@@ -35,7 +36,8 @@ newForm s =
 abbrev pub held : List ℕ → ℕ → List ℕ
 held a k = part a (80 + 8 * k) 8
 
--- the old form of a record in the new one: "The covariance is symmetric", so each entry left of the diagonal is its mirror
+-- the old form of a record in the new one: "The covariance is symmetric", so that left of the diagonal stand the
+-- mirrored entries
 unfoldable pub oldForm : List ℕ → List ℕ
 oldForm a =
     part a 0 80

@@ -1,4 +1,5 @@
--- Document 02, item 7: "the move from the old form to the new and back", its refusals and the lent output. Definitions only.
+-- Document 02, item 7: "the move from the old form to the new and back", its refusals and the lent output. Definitions
+-- only.
 use Prim.Native.Nat.{ℕ}
 use mathlib.Core.Bool.{Bool, cond, _&&_}
 use mathlib.Core.List.{List, _++_}
@@ -13,7 +14,8 @@ use Rattle.archive.specs.Forms.{bits, newForm, oldForm}
 unfoldable pub equalMirror : List ℕ → Bool
 equalMirror s = eqb (bits s 0 1) (bits s 1 0) && (eqb (bits s 0 2) (bits s 2 0) && eqb (bits s 1 2) (bits s 2 1))
 
--- what a record in the old form gets: the reader's number, then "20 unequal mirror, tested after the old form has been read"
+-- what a record in the old form gets: what the reader gives it, then "20 unequal mirror, tested after the old form has
+-- been read"
 unfoldable pub oldRefusal : List ℕ → ℕ
 oldRefusal s = cond (eqb (readOf s .refusal) 0) (cond (equalMirror s) 0 unequalMirror) (readOf s .refusal)
 

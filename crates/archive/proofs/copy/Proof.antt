@@ -1,11 +1,8 @@
 -- `archive::copy` meets its contract: after i turns i bytes are copied (`paste-suc`). Assumes nothing.
-use borrow.Author.Needs.{needs}
-use Prim.Native.Nat.{ℕ, suc, _+_, _-_, _≤_}
-use mathlib.Core.Path.{_≡_, refl, sym, ap, _∙_}
-use mathlib.Core.List.{List}
+use Prim.Native.Nat.{_-_, _≤_}
+use mathlib.Core.Path.{_≡_, refl, ap, _∙_}
 use native.Mathlib.Omega.{arith}
-use native.Mathlib.Numerals.{add-one}
-use lib.ListN.{length, drop, getD, set, length-set, length-drop}
+use lib.ListN.{length, drop, length-set}
 use lib.Seq.{paste, paste-zero}
 use denote.Ref.{now}
 use Rattle.archive.proofs.Pasted.{copied-next}
@@ -45,7 +42,8 @@ loop-again c =
     let start = loop .before .args in (
       omega arith,
       rw length-set (loop .loop .inv .1),
-      copied-next (now (start .to)) (now (start .s)) (loop .loop .to) (start .k) (start .at) (loop .loop .i) (omega arith) (omega arith) (loop .loop .inv .2),
+      copied-next (now (start .to)) (now (start .s)) (loop .loop .to) (start .k) (start .at) (loop .loop .i)
+          (omega arith) (omega arith) (loop .loop .inv .2),
     )
 
 same-length : tie.Need-same-length Inv-loop μ-loop

@@ -45,7 +45,8 @@ returns c =
     let c₂ = c₃ .before .before .before in
     let c₁ = c₂ .before .before .before in
     let start = c₁ .before .before .before in
-    new-form (now (start .args .s)) (replicate 152 0) _ _ _ _ _ (start .pre) (length-replicate {A = ℕ} 152 0) (c₁ .copy .ensures) (c₂ .copy2 .ensures) (c₃ .copy3 .ensures) (c₄ .copy4 .ensures) (c₅ .copy5 .ensures)
+    new-form (now (start .args .s)) (replicate 152 0) _ _ _ _ _ (start .pre) (length-replicate {A = ℕ} 152 0)
+    (c₁ .copy .ensures) (c₂ .copy2 .ensures) (c₃ .copy3 .ensures) (c₄ .copy4 .ensures) (c₅ .copy5 .ensures)
 
 pub new-form-spec : {M : Type 1} → statement M
 new-form-spec =

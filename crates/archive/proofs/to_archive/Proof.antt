@@ -78,7 +78,8 @@ returns-4 c =
     (sym (test .equal-mirror .ensures) ∙ not-false (test .equal-mirror .result) (same .if3 .left)) in
     let formed = moved .new-form .ensures in
     let sized : length (moved .new-form .result) ≡ 152 = search needs in
-    (sym e, copied .copy .ensures ∙ over-front out (moved .new-form .result) 152 sized ∙ ap (λ (m : List ℕ). m ++ drop 152 out) formed ∙ sym (to-stored _ out e))
+    let stored = copied .copy .ensures ∙ over-front out (moved .new-form .result) 152 sized in
+    (sym e, stored ∙ ap (λ (m : List ℕ). m ++ drop 152 out) formed ∙ sym (to-stored _ out e))
 
 pub to-archive-spec : {M : Type 1} → statement M
 to-archive-spec =
