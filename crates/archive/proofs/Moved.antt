@@ -1,11 +1,11 @@
 -- The ends of the two moves. Assumes nothing.
 use Prim.Native.Nat.{ℕ, _<_, _≤_}
-use mathlib.Core.Path.{_≡_, sym, _∙_}
-use mathlib.Core.Bool.{true, false}
+use mathlib.Core.Path.{_≡_, sym, ap, _∙_}
+use mathlib.Core.Bool.{Bool, true, false, not, cond}
 use mathlib.Core.List.{List, _++_}
 use lib.Dec.{eqb}
 use lib.ListN.{length, drop}
-use borrow.Author.Tests.{eq-eqb, ne-eqb, lt-ltb, le-ltb}
+use borrow.Author.Tests.{eq-eqb, ne-eqb, lt-ltb, le-ltb, not-true, not-false}
 use Rattle.record.specs.Record.{stored}
 use Rattle.reader.specs.Read.{readOf}
 use Rattle.archive.specs.Forms.{bits, newForm, oldForm}
@@ -13,37 +13,65 @@ use Rattle.archive.specs.Moves.{equalMirror, oldRefusal, newRefusal, toA
 
 -- ---- the mirror
 
+-- the outcome of a comparison, by what was compared
+pub compared : {x y p q : ℕ} {r b : Bool} → r ≡ eqb x y → x ≡ p → y ≡ q → r ≡ b → eqb p q ≡ b
+compared t e f h = rw (sym e, sym f, sym t) h
+
+pub equal : {x y p q : ℕ} {r : Bool} → r ≡ eqb x y → x ≡ p → y ≡ q → not r ≡ false → eqb p q ≡ true
+equal t e f h = compared t e f (not-false _ h)
+
+pub unequal : {x y p q : ℕ} {r : Bool} → r ≡ eqb x y → x ≡ p → y ≡ q → not r ≡ true → eqb p q ≡ false
+unequal t e f h = compared t e f (not-true _ h)
+
 module _ (s : List ℕ) where
-  pub first-unequal : (bits s 0 1 ≡ bits s 1 0 → ⊥) → false ≡ equalMirror s
+  pub first-unequal : eqb (bits s 0 1) (bits s 1 0) ≡ false → false ≡ equalMirror s
   unfolding equalMirror
-  first-unequal n = rw (ne-eqb _ _ n)
+  first-unequal e = rw e
 
-  pub second-unequal : bits s 0 1 ≡ bits s 1 0 → (bits s 0 2 ≡ bits s 2 0 → ⊥) → false ≡ equalMirror s
+  pub second-unequal : eqb (bits s 0 1) (bits s 1 0) ≡ true → eqb (bits s 0 2) (bits s 2 0) ≡ false → false ≡ equalMirror s
   unfolding equalMirror
-  second-unequal e n = rw (eq-eqb _ _ e, ne-eqb _ _ n)
+  second-unequal e f = rw (e, f)
 
-  pub third : {x y : ℕ} → bits s 0 1 ≡ bits s 1 0 → bits s 0 2 ≡ bits s 2 0 → x ≡ bits s 1 2 → y ≡ bits s 2 1 → eqb x y ≡ equalMirror s
+  pub third
+      : {r : Bool} → eqb (bits s 0 1) (bits s 1 0) ≡ true → eqb (bits s 0 2) (bits s 2 0) ≡ true → eqb (bits s 1 2) (bits s 2 1) ≡ r
+      → r ≡ equalMirror s
   unfolding equalMirror
-  third e f x y = rw (eq-eqb _ _ e, eq-eqb _ _ f, x, y)
+  third e f g = rw (e, f, g)
 
 -- ---- from the old form to the new
+
+unread-by : (b m : Bool) (r : ℕ) → b ≡ false → cond b (cond m 0 20) r ≡ r
+unread-by b m r e = rw e
+
+read-by : (b m : Bool) (r : ℕ) → b ≡ true → cond b (cond m 0 20) r ≡ cond m 0 20
+read-by b m r e = rw e
+
+-- what the reader turns away gets the reader's number, and what it reads goes by its mirror
+old-unread : (s : List ℕ) → (readOf s .refusal ≡ 0 → ⊥) → oldRefusal s ≡ readOf s .refusal
+unfolding oldRefusal
+old-unread s n = unread-by (eqb (readOf s .refusal) 0) (equalMirror s) (readOf s .refusal) (ne-eqb (readOf s .refusal) 0 n)
+
+old-read : (s : List ℕ) → readOf s .refusal ≡ 0 → oldRefusal s ≡ cond (equalMirror s) 0 20
+unfolding oldRefusal
+old-read s e = read-by (eqb (readOf s .refusal) 0) (equalMirror s) (readOf s .refusal) (eq-eqb (readOf s .refusal) 0 e)
 
 module _ (s out : List ℕ) where
   pub to-short : length out < 152 → toArchiveAnswer s out ≡ 14
   unfolding toArchiveAnswer
   to-short h = rw (lt-ltb (length out) 152 h)
 
+  to-long : 152 ≤ length out → toArchiveAnswer s out ≡ oldRefusal s
+  unfolding toArchiveAnswer
+  to-long h = rw (le-ltb (length out) 152 h)
+
   pub to-unread : 152 ≤ length out → (readOf s .refusal ≡ 0 → ⊥) → toArchiveAnswer s out ≡ readOf s .refusal
-  unfolding toArchiveAnswer oldRefusal
-  to-unread h n = rw (le-ltb (length out) 152 h, ne-eqb (readOf s .refusal) 0 n)
+  to-unread h n = to-long h ∙ old-unread s n
 
   pub to-unequal : 152 ≤ length out → readOf s .refusal ≡ 0 → equalMirror s ≡ false → toArchiveAnswer s out ≡ 20
-  unfolding toArchiveAnswer oldRefusal
-  to-unequal h r m = rw (le-ltb (length out) 152 h, eq-eqb (readOf s .refusal) 0 r, m)
+  to-unequal h r m = to-long h ∙ old-read s r ∙ ap (λ (b : Bool). cond b 0 20) m
 
   pub to-moved : 152 ≤ length out → readOf s .refusal ≡ 0 → equalMirror s ≡ true → toArchiveAnswer s out ≡ 0
-  unfolding toArchiveAnswer oldRefusal
-  to-moved h r m = rw (le-ltb (length out) 152 h, eq-eqb (readOf s .refusal) 0 r, m)
+  to-moved h r m = to-long h ∙ old-read s r ∙ ap (λ (b : Bool). cond b 0 20) m
 
   -- a refusal leaves the output as found
   pub to-left : (r : ℕ) → toArchiveAnswer s out ≡ r → (r ≡ 0 → ⊥) → (r ≡ toArchiveAnswer s out) × (out ≡ toArchiveOutput s out)

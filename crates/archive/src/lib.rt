@@ -2,6 +2,7 @@
 // record of 176 bytes to one of 152, `from_archive` moves it back. Bytes are copied as they are.
 ghost use mathlib.Core.Path.{_≡_};
 ghost use Prim.Native.Nat.{_+_, _≤_};
+ghost use lib.Dec.{eqb};
 ghost use lib.ListN.{length, drop};
 ghost use lib.Seq.{paste};
 ghost use Rattle.archive.specs.Forms as forms;
@@ -53,18 +54,25 @@ fn old_form(a: &[u8]) -> [u8; 176]
     s
 }
 
-// Whether mirrored entries have equal bits. As floats -0 and 0 would be equal.
+// Whether two entries have equal bits. As floats -0 and 0 would be equal.
+fn same_bits(x: u64, y: u64) -> bool
+    ensures { λ r. ⌜ r ≡ eqb x y ⌝ }
+{
+    x == y
+}
+
+// Whether mirrored entries have equal bits.
 fn equal_mirror(s: &[u8]) -> bool
     requires { ⌜ length (now s) ≡ 176 ⌝ }
     ensures { λ r. ⌜ r ≡ moves.equalMirror (now (s .entry)) ⌝ }
 {
-    if words::u64_at(s, 88) != words::u64_at(s, 104) {
+    if !same_bits(words::u64_at(s, 88), words::u64_at(s, 104)) {
         return false;
     }
-    if words::u64_at(s, 96) != words::u64_at(s, 128) {
+    if !same_bits(words::u64_at(s, 96), words::u64_at(s, 128)) {
         return false;
     }
-    words::u64_at(s, 120) == words::u64_at(s, 136)
+    same_bits(words::u64_at(s, 120), words::u64_at(s, 136))
 }
 
 // Moves a record of 176 bytes to the first 152 of the output: 14 where that is shorter, then the reader's 16 and 18,
@@ -100,11 +108,11 @@ pub fn from_archive(bytes: &[u8], out: &mut [u8]) -> u32
     if bytes.len() != NEW {
         return refusals::TORN_FILE;
     }
-    let moved = old_form(bytes);
-    let reading = reader::read(&moved);
-    if reading.refusal != 0 {
-        return reading.refusal;
+    let old = old_form(bytes);
+    let read = reader::read(&old);
+    if read.refusal != 0 {
+        return read.refusal;
     }
-    record::store(out, moved);
+    record::store(out, old);
     0
 }
