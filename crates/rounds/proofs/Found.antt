@@ -40,7 +40,14 @@ use Rattle.rounds.proofs.Chains.{all-kept, chain-within}
 use Rattle.rounds.proofs.Claim.{claim, only}
 
 -- ---- a fix of `finish`
-finish-fix : (mask dof : ℕ) (reference : ℤ) (fit : Fit) (x : Fix) → finish mask dof reference fit ≡ gives x → (c : List (List Float)) × (ps : ℤ) × (x ≡ fixOf mask dof fit c ps)
+
+-- the covariance that is published with the factor l
+abbrev pub publishedBy : List Float → List (List Float)
+publishedBy l = published (inverse l 4 (replicate 16 nought))
+
+pub finish-fix
+    : (mask dof : ℕ) (reference : ℤ) (fit : Fit) (x : Fix) → finish mask dof reference fit ≡ gives x
+    → (l : List Float) × (ps : ℤ) × (x ≡ fixOf mask dof fit (publishedBy l) ps)
 unfolding finish
 finish-fix mask dof reference fit x e = go (cholesky (fit .information) 4 (replicate 16 nought)) e
   where
@@ -49,24 +56,27 @@ finish-fix mask dof reference fit x e = go (cholesky (fit .information) 4 (repli
     tests true false c ps q = absurd (let z : _≡_ {A = ℕ} 0 1 = cc in omega arith)
     tests true true c ps q = cc
 
-    go : (f : Factor) → inverted mask dof reference fit f ≡ gives x → (c : List (List Float)) × (ps : ℤ) × (x ≡ fixOf mask dof fit c ps)
+    go
+        : (f : Factor) → inverted mask dof reference fit f ≡ gives x
+        → (l : List Float) × (ps : ℤ) × (x ≡ fixOf mask dof fit (publishedBy l) ps)
     go (refused l) q = absurd (let z : _≡_ {A = ℕ} 0 1 = cc in omega arith)
     go (found l) q =
-        let c : List (List Float) = published (inverse l 4 (replicate 16 nought)) in
+        let c : List (List Float) = publishedBy l in
         let ps : ℤ = transmitPs reference (moment (fit .params)) in
-        (c, ps, tests (certain c) (held ps) c ps q)
+        (l, ps, tests (certain c) (held ps) c ps q)
 
 -- ---- what the steps after the rounds passed
 module _ (R : Receptions) (reference : ℤ) (S : Subset) (fit : Fit) where
-  record Passed (x : Fix) : Type 0 where
+  pub record Passed (x : Fix) : Type 0 where
     pub l : List Float
     pub whitens : whitenerOver R S ≡ found l
     pub consistent : T (not (lt (limitAt (chosenOver R S l) (dofOf R S) (fit .params)) (fit .cost)))
     pub c : List (List Float)
     pub ps : ℤ
     pub is : x ≡ fixOf (maskOf S (R .n)) (dofOf R S) fit c ps
+    pub finished : finish (maskOf S (R .n)) (dofOf R S) reference fit ≡ gives x
 
-  passed : (x : Fix) → later R reference S fit ≡ gives x → Passed x
+  pub passed : (x : Fix) → later R reference S fit ≡ gives x → Passed x
   unfolding later
   passed x e = go (whitenerOver R S) refl e
     where
@@ -75,7 +85,15 @@ module _ (R : Receptions) (reference : ℤ) (S : Subset) (fit : Fit) where
       test l w true h q = absurd (let z : _≡_ {A = ℕ} 0 1 = cc in omega arith)
       test l w false h q =
           let f = finish-fix (maskOf S (R .n)) (dofOf R S) reference fit x q in
-          record { l = l; whitens = w; consistent = subst (λ (t : Bool). T (not t)) (sym h) tt; c = f .0; ps = f .1; is = f .2 }
+          record {
+            l = l;
+            whitens = w;
+            consistent = subst (λ (t : Bool). T (not t)) (sym h) tt;
+            c = publishedBy (f .0);
+            ps = f .1;
+            is = f .2;
+            finished = q;
+          }
 
       go : (f : Factor) → whitenerOver R S ≡ f → tested R reference S fit f ≡ gives x → Passed x
       go (refused l) w q = absurd (let z : _≡_ {A = ℕ} 0 1 = cc in omega arith)

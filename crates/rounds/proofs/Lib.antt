@@ -1,4 +1,5 @@
--- Demand 3 holds of the computation, and of one answer only; the laws of the code's parts.
+-- Demand 3 holds of the computation, and of one answer only; the laws of the code's parts; and that the covariance of a fix is
+-- symmetric.
 pub mod Choices
 pub mod Steps
 pub mod Chains
@@ -14,3 +15,5 @@ pub mod Late
 pub mod Turns
 pub mod Runs
 pub mod Found
+pub mod Mirrors
+pub mod Shown

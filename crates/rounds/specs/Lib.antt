@@ -4,3 +4,4 @@ pub mod Rounds
 pub mod Looked
 pub mod Solve
 pub mod Demand
+pub mod Mirrored
