@@ -3,3 +3,4 @@ pub mod Written
 pub mod Unpacked
 pub mod Cut
 pub mod Outputs
+pub mod Records

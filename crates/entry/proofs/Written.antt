@@ -15,7 +15,7 @@ use Rattle.entry.specs.declared.Reply.{Reply}
 use Rattle.entry.specs.Reply.{recordOf, replied, reply, Demanded}
 
 module _ (I : Inputs) (passes : checkInputs I ≡ Passed) where
-  small : problemOf I .n ≤ 32
+  pub small : problemOf I .n ≤ 32
   unfolding problemOf
   small = few I passes
 
