@@ -5,3 +5,4 @@ pub mod Lending
 pub mod Returned
 pub mod Display
 pub mod Written
+pub mod Solved

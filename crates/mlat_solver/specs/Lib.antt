@@ -4,3 +4,4 @@ pub mod Meaning
 pub mod Records
 pub mod Display
 pub mod Positions
+pub mod Solved
