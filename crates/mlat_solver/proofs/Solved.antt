@@ -1,13 +1,13 @@
 -- Every record that a solve writes is read and moved: `reply-written` says what stands in it, and reader's laws that such a
 -- record meets the rules. Assumes nothing.
-use Prim.Native.Nat.{ℕ, _+_, _*_, _^_, _<_, _≤_}
+use Prim.Native.Nat.{ℕ, _^_, _<_, _≤_}
 use mathlib.Core.Path.{_≡_, refl, sym, ap, subst, _∙_}
 use mathlib.Core.Bool.{true}
 use mathlib.Core.Logic.{_⊎_, inl, inr}
 use mathlib.Core.List.{List}
 use native.Mathlib.Omega.{arith}
 use borrow.Author.Tests.{eq-eqb, le-ltb}
-use lib.ListN.{length, take, drop}
+use lib.ListN.{length, drop}
 use lib.Seq.{take-at}
 use lib.Ieee.{Float}
 use Rattle.binary64.specs.Steps.{isFinite}
@@ -16,35 +16,37 @@ use Rattle.record.specs.declared.content.Fix.{Fix}
 use Rattle.record.specs.Record.{fix, refusal}
 use Rattle.reader.specs.declared.content.Reading.{Reading}
 use Rattle.reader.specs.Rules.{DetailRule, Rules}
-use Rattle.reader.specs.Read.{readOf, contentAt}
-use Rattle.reader.specs.Meaning.{Bytes, given}
+use Rattle.reader.specs.Meaning.{Bytes}
 use Rattle.reader.proofs.Meaning.{takes-apart-exactly}
 use Rattle.reader.proofs.Shown.{refusal-u64, refusal-rules, mirror-shown, metres-shown, fix-rules}
 use Rattle.reader.proofs.Value.{fix-sized, fix-bytes, refusal-sized, refusal-bytes}
 use Rattle.archive.specs.Forms.{bits}
-use Rattle.archive.specs.Moves.{equalMirror, oldRefusal, toArchiveAnswer}
+use Rattle.archive.specs.Moves.{equalMirror}
+use Rattle.archive.specs.Meaning.{EqualMirror}
+use Rattle.archive.proofs.Mirror.{mirror-tested}
+use Rattle.archive.proofs.Meaning.{moved-exactly, old-comes-back}
 use Rattle.inputs.specs.Inputs.{Inputs}
 use Rattle.entry.specs.Reply.{reply, answer, output}
 use Rattle.entry.proofs.Records.{Told, few, disorder, badField, plain, Shows, Written, refused, fixed, reply-written}
 use Rattle.mlat_solver.specs.Solved.{solvedRecord, FiniteFloats, Moves, SolvedMoves}
 
--- ---- what is read and has an equal mirror is moved
-module _ (s : List ℕ) (read : readOf s ≡ given (contentAt s)) where
-  refused-nothing : readOf s .refusal ≡ 0
-  refused-nothing = ap (λ (r : Reading). r .refusal) read
+-- ---- what meets the rules and has an equal mirror is moved
+module _ (s : List ℕ) (bytes : Bytes s) (sized : length s ≡ 176) (rules : Rules s) where
+  mirrored : bits s 0 1 ≡ bits s 1 0 → bits s 0 2 ≡ bits s 2 0 → bits s 1 2 ≡ bits s 2 1 → EqualMirror s
+  unfolding equalMirror
+  mirrored x y z =
+      mirror-tested s (rw (eq-eqb (bits s 0 1) (bits s 1 0) x, eq-eqb (bits s 0 2) (bits s 2 0) y, eq-eqb (bits s 1 2) (bits s 2 1) z))
 
-  is-moved
-      : bits s 0 1 ≡ bits s 1 0 → bits s 0 2 ≡ bits s 2 0 → bits s 1 2 ≡ bits s 2 1
-      → (to : List ℕ) → 152 ≤ length to → toArchiveAnswer s to ≡ 0
-  unfolding toArchiveAnswer oldRefusal equalMirror
-  is-moved x y z to h =
-      rw (
-        le-ltb (length to) 152 h,
-        refused-nothing,
-        eq-eqb (bits s 0 1) (bits s 1 0) x,
-        eq-eqb (bits s 0 2) (bits s 2 0) y,
-        eq-eqb (bits s 1 2) (bits s 2 1) z,
-      )
+  ruled-moves : EqualMirror s → Moves s
+  ruled-moves m =
+      let read = takes-apart-exactly s bytes .1 sized rules in
+      let unrefused = ap (λ (r : Reading). r .refusal) read in
+      record {
+        rules = rules;
+        read = read;
+        moved = λ to h. moved-exactly s to .1 h unrefused m;
+        back = λ to back h g. old-comes-back s to back bytes unrefused m h g .1;
+      }
 
 -- ---- a refusal
 
@@ -106,28 +108,27 @@ told-rule (plain k g h) =
 refusal-moves : (k d n : ℕ) → Told k d → (k ≤ 9 → n ≤ 32) → Moves (refusal k d n)
 refusal-moves k d n t h =
     let s = refusal k d n in
+    let bytes = refusal-bytes k d n in
+    let sized = refusal-sized k d n in
     let rules = refusal-rules k d n (told-refuses t) (told-answer t) (told-lt t) (told-rule t) h in
-    let read = takes-apart-exactly s (refusal-bytes k d n) .1 (refusal-sized k d n) rules in
     let zero = refusal-u64 k d n in
-    record {
-      rules = rules;
-      read = read;
-      moved = is-moved s read
-          (zero 88 (omega arith) (omega arith) ∙ sym (zero 104 (omega arith) (omega arith)))
-          (zero 96 (omega arith) (omega arith) ∙ sym (zero 128 (omega arith) (omega arith)))
-          (zero 120 (omega arith) (omega arith) ∙ sym (zero 136 (omega arith) (omega arith)));
-    }
+    ruled-moves s bytes sized rules
+    (mirrored s bytes sized rules
+    (zero 88 (omega arith) (omega arith) ∙ sym (zero 104 (omega arith) (omega arith)))
+    (zero 96 (omega arith) (omega arith) ∙ sym (zero 128 (omega arith) (omega arith)))
+    (zero 120 (omega arith) (omega arith) ∙ sym (zero 136 (omega arith) (omega arith))))
 
 -- ---- a fix
 
 fix-moves : (n : ℕ) (alt : Altitude) (x : Fix) → Shows n alt x → FiniteFloats (fix n alt x) → Moves (fix n alt x)
 fix-moves n alt x h f =
     let s = fix n alt x in
+    let bytes = fix-bytes n alt x in
+    let sized = fix-sized n alt x in
     let metres = subst (λ (y : Float). isFinite y ≡ true) (metres-shown n alt x (h .held)) (h .finite) in
     let rules = fix-rules n alt x (h .few) (h .mask) (h .dof) (f .places) (f .claims) metres in
-    let read = takes-apart-exactly s (fix-bytes n alt x) .1 (fix-sized n alt x) rules in
-    let mirror = mirror-shown n alt x (h .mirror01) (h .mirror02) (h .mirror12) in
-    record { rules = rules; read = read; moved = is-moved s read (mirror .0) (mirror .1) (mirror .2) }
+    let m = mirror-shown n alt x (h .mirror01) (h .mirror02) (h .mirror12) in
+    ruled-moves s bytes sized rules (mirrored s bytes sized rules (m .0) (m .1) (m .2))
 
 -- ---- every record
 

@@ -5,10 +5,11 @@ use Prim.Native.Nat.{ℕ, _+_, _*_, _<_, _≤_}
 use mathlib.Core.Path.{_≡_}
 use mathlib.Core.List.{List}
 use lib.ListN.{length, take}
+use Rattle.record.specs.Record.{stored}
 use Rattle.reader.specs.Rules.{Finite, Rules}
 use Rattle.reader.specs.Read.{readOf, contentAt}
 use Rattle.reader.specs.Meaning.{given}
-use Rattle.archive.specs.Moves.{toArchiveAnswer}
+use Rattle.archive.specs.Moves.{toArchiveAnswer, toArchiveOutput, fromArchiveOutput}
 use Rattle.inputs.specs.Inputs.{Inputs}
 use Rattle.entry.specs.Reply.{answer, output}
 
@@ -21,11 +22,15 @@ pub record FiniteFloats (s : List ℕ) : Type 0 where
   pub places : (i : ℕ) → i < 7 → Finite s (16 + 8 * i)
   pub claims : (i : ℕ) → i < 10 → Finite s (80 + 8 * i)
 
--- "can be moved": the reader's rules hold of s, so that it is taken apart, and its move is refused by nothing
+-- "can be moved": the reader's rules hold of s, so that it is taken apart; nothing refuses its move, and it "comes back byte
+-- for byte"
 pub record Moves (s : List ℕ) : Type 0 where
   pub rules : Rules s
   pub read : readOf s ≡ given (contentAt s)
   pub moved : (to : List ℕ) → 152 ≤ length to → toArchiveAnswer s to ≡ 0
+  pub back :
+      (to back : List ℕ) → 152 ≤ length to → 176 ≤ length back
+      → fromArchiveOutput (take 152 (toArchiveOutput s to)) back ≡ stored back s
 
 -- "if the source's steps can leave mirrored entries unequal, exactly such fixes among these get 20": they cannot
 pub record SolvedMoves : Type 0 where
