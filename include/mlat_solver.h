@@ -163,6 +163,22 @@ uint32_t mlat_to_wire(const uint8_t *record, size_t record_len, int32_t wire[3])
    same limits, and then position stays as it was. Whatever mlat_to_wire writes is read back. */
 uint32_t mlat_from_wire(const int32_t wire[3], double position[3]);
 
+/* ---- archives: fix records with six covariance entries for nine */
+
+/* Moves a record of 176 bytes to the archive's form, in the first 152 bytes of out: bytes 0 to 79, the covariance's
+   entries on and right of the diagonal by rows, and the last 24 bytes. Returns 0; MLAT_SHORT_OUTPUT where out_len is
+   under 152; then what mlat_read_record gives the record, MLAT_TORN_FILE or MLAT_MALFORMED_RECORD; then
+   MLAT_UNEQUAL_MIRROR where an entry and its mirror differ in a bit, as 0 and -0 do. Every refusal that mlat_solve
+   writes, and every fix of its with finite numbers, gets 0. mlat_from_archive gives the same 176 bytes again. A refusal
+   leaves out as it was, and bytes past 152 never change. out does not overlap record. */
+uint32_t mlat_to_archive(const uint8_t *record, size_t record_len, uint8_t *out, size_t out_len);
+
+/* Moves a record of 152 bytes back, to the first 176 bytes of out: its old form, in which each entry left of the
+   diagonal is its mirror. Returns 0; MLAT_SHORT_OUTPUT where out_len is under 176; then MLAT_TORN_FILE where record_len
+   is not 152; then MLAT_MALFORMED_RECORD where mlat_read_record turns the old form away. mlat_to_archive gives the same
+   152 bytes again. A refusal leaves out as it was, and bytes past 176 never change. out does not overlap record. */
+uint32_t mlat_from_archive(const uint8_t *record, size_t record_len, uint8_t *out, size_t out_len);
+
 #ifdef __cplusplus
 }
 #endif

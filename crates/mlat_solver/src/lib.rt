@@ -1,7 +1,8 @@
 // What is open to callers, under its C names: a module a subject, as in include/mlat_solver.h (numbers, geodesy, claims, solve,
-// records, positions).
+// records, positions, archives).
 // Each function takes every value and demands nothing. An array of fixed length that is lent as `&mut` is written
 // whole, or stays as it was where the call is refused.
+mod archives;
 mod claims;
 mod geodesy;
 mod numbers;
@@ -9,6 +10,8 @@ mod positions;
 mod records;
 mod solve;
 
+pub use archives::mlat_from_archive;
+pub use archives::mlat_to_archive;
 pub use claims::mlat_chi2_limit;
 pub use claims::mlat_enu_covariance;
 pub use claims::mlat_horizontal_sigma_m;
