@@ -58,7 +58,7 @@ fn finite(random: &mut Random) -> u64 {
 
 /// A fix of n receptions with an altitude of this kind, as many used as a fix needs or more: n is at least 4, or 3 with
 /// an altitude.
-fn fix_of(random: &mut Random, n: u32, kind: u32) -> Fields {
+pub fn fix_of(random: &mut Random, n: u32, kind: u32) -> Fields {
     let least = if kind == 0 { 4 } else { 3 };
     let all = ((1u64 << n) - 1) as u32;
     let mut mask = random.bits() as u32 & all;

@@ -121,3 +121,36 @@ uses() {
         }
     ' "$1/crates.txt"
 }
+
+# mutants SUBJECT KEPT [NAME..]: builds each mutant of oracle/mutants_SUBJECT.txt (or those named), runs oracle/SUBJECT_replay.rs with it on the recorded cases
+# KEPT and says how many of them tell it from the oracle. Fails where the oracle itself differs, or a mutant is not seen.
+mutants() {
+    subject=$1 kept=$2
+    shift 2
+    list=oracle/mutants_$subject.txt
+    out=target/oracle/mutants_$subject
+    mkdir -p "$out/from"
+    cp oracle/*.rs "$out/from/"
+    rustc --edition 2021 -O -o "$out/mutate" oracle/mutate.rs
+    found=$(replayed "$out/from")
+    echo "the oracle: $found"
+    case $found in '0 of '*) ;; *) exit 1 ;; esac
+    # shellcheck disable=SC2046
+    [ $# -gt 0 ] || set -- $("$out/mutate" "$list")
+    missed=0
+    for name in "$@"; do
+        rm -rf "$out/src"
+        "$out/mutate" "$list" "$name" "$out/from" "$out/src"
+        found=$(replayed "$out/src")
+        echo "$name: $found"
+        case $found in '0 of '*) missed=$((missed + 1)) ;; esac
+    done
+    echo "$# mutants, $missed missed"
+    [ "$missed" -eq 0 ]
+}
+
+# replayed FOLDER: what its sources give on the recorded cases of `mutants`.
+replayed() {
+    rustc --edition 2021 -C debug-assertions=off -A warnings -o "$out/replay" "$1/${subject}_replay.rs"
+    "$out/replay" "$kept"
+}
