@@ -32,7 +32,9 @@
 //! ```
 //!
 //! [`Fix::to_wire`] has a position as whole numbers, as it is published, and [`Wire::position`] the way back.
+//! [`Record::to_archive`] and [`Record::from_archive`] move a record to the archive's form of 152 bytes and back.
 
+mod archive;
 mod fix;
 mod reception;
 mod record;
@@ -40,6 +42,7 @@ mod records;
 mod refusal;
 mod wire;
 
+pub use archive::{ARCHIVED, from_archive, to_archive};
 pub use fix::Fix;
 pub use reception::{ObservationId, RECEPTION, Reception};
 pub use record::{Record, read, write};
