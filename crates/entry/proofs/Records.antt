@@ -12,7 +12,7 @@ use lib.Dec.{T, leb, eqb}
 use lib.Ieee.{Float, nan, inf, fin, binary64, fits, le, lt, eq, neg, round, ofBits}
 use lib.Ieee.Bits.{ofBits-fits}
 use Rattle.refusals.specs.Refusals as refusals
-use Rattle.binary64.specs.Steps.{nought, decimal, isFinite}
+use Rattle.binary64.specs.Steps.{isFinite}
 use Rattle.dense.specs.Entries.{nth}
 use Rattle.sets.specs.Sets.{count}
 use Rattle.sets.specs.Mask.{has}
@@ -29,7 +29,7 @@ use Rattle.inputs.specs.Faults.{numberOf, detailOf}
 use Rattle.inputs.specs.InDomain.{altitudeGood}
 use Rattle.inputs.specs.Inputs.{Inputs, checkInputs, altitudeOf, problemOf}
 use Rattle.inputs.proofs.Details.{Located, located}
-use Rattle.inputs.proofs.Order.{both-of, passed-altitude}
+use Rattle.inputs.proofs.Order.{passed-altitude}
 use Rattle.inputs.proofs.Sound.{metres-good}
 use Rattle.rounds.specs.declared.answer.Refusal.{Refusal}
 use Rattle.rounds.specs.declared.answer.Refusal.the-variants as why
@@ -154,7 +154,8 @@ module _ (I : Inputs) (passes : checkInputs I ≡ Passed) (alt : Altitude) where
     answer-written : (a : Answer Fix) → solveProblem P ≡ a → Written (number a) (recordOf (P .n) alt a)
     answer-written (answers.fix x) q = fixed (P .n) alt x refl (fix-shows x q) refl
     answer-written (answers.refused e) q = refused (refusalDetail e) (P .n) (refusal-told e q) (λ h. small I passes) refl
-    answer-written answers.noFixedPoint q = refused 0 (P .n) (plain refusals.noFixedPoint (omega arith) (inl (omega arith))) (λ h. small I passes) refl
+    answer-written answers.noFixedPoint q =
+        refused 0 (P .n) (plain refusals.noFixedPoint (omega arith) (inl (omega arith))) (λ h. small I passes) refl
 
 -- ---- every reply
 pub reply-written : (I : Inputs) → Written (reply I .number) (reply I .bytes)

@@ -26,17 +26,18 @@ use Rattle.archive.specs.Meaning.{EqualMirror}
 use Rattle.archive.proofs.Mirror.{mirror-tested}
 use Rattle.archive.proofs.Meaning.{moved-exactly, old-comes-back}
 use Rattle.inputs.specs.Inputs.{Inputs}
-use Rattle.entry.specs.Reply.{reply, answer, output}
+use Rattle.entry.specs.Reply.{reply, answer}
 use Rattle.entry.proofs.Records.{Told, few, disorder, badField, plain, Shows, Written, refused, fixed, reply-written}
 use Rattle.mlat_solver.specs.Solved.{solvedRecord, FiniteFloats, Moves, SolvedMoves}
 
 -- ---- what meets the rules and has an equal mirror is moved
-module _ (s : List ℕ) (bytes : Bytes s) (sized : length s ≡ 176) (rules : Rules s) where
-  mirrored : bits s 0 1 ≡ bits s 1 0 → bits s 0 2 ≡ bits s 2 0 → bits s 1 2 ≡ bits s 2 1 → EqualMirror s
-  unfolding equalMirror
-  mirrored x y z =
-      mirror-tested s (rw (eq-eqb (bits s 0 1) (bits s 1 0) x, eq-eqb (bits s 0 2) (bits s 2 0) y, eq-eqb (bits s 1 2) (bits s 2 1) z))
 
+mirrored : (s : List ℕ) → bits s 0 1 ≡ bits s 1 0 → bits s 0 2 ≡ bits s 2 0 → bits s 1 2 ≡ bits s 2 1 → EqualMirror s
+unfolding equalMirror
+mirrored s x y z =
+    mirror-tested s (rw (eq-eqb (bits s 0 1) (bits s 1 0) x, eq-eqb (bits s 0 2) (bits s 2 0) y, eq-eqb (bits s 1 2) (bits s 2 1) z))
+
+module _ (s : List ℕ) (bytes : Bytes s) (sized : length s ≡ 176) (rules : Rules s) where
   ruled-moves : EqualMirror s → Moves s
   ruled-moves m =
       let read = takes-apart-exactly s bytes .1 sized rules in
@@ -108,12 +109,10 @@ told-rule (plain k g h) =
 refusal-moves : (k d n : ℕ) → Told k d → (k ≤ 9 → n ≤ 32) → Moves (refusal k d n)
 refusal-moves k d n t h =
     let s = refusal k d n in
-    let bytes = refusal-bytes k d n in
-    let sized = refusal-sized k d n in
     let rules = refusal-rules k d n (told-refuses t) (told-answer t) (told-lt t) (told-rule t) h in
     let zero = refusal-u64 k d n in
-    ruled-moves s bytes sized rules
-    (mirrored s bytes sized rules
+    ruled-moves s (refusal-bytes k d n) (refusal-sized k d n) rules
+    (mirrored s
     (zero 88 (omega arith) (omega arith) ∙ sym (zero 104 (omega arith) (omega arith)))
     (zero 96 (omega arith) (omega arith) ∙ sym (zero 128 (omega arith) (omega arith)))
     (zero 120 (omega arith) (omega arith) ∙ sym (zero 136 (omega arith) (omega arith))))
@@ -123,12 +122,10 @@ refusal-moves k d n t h =
 fix-moves : (n : ℕ) (alt : Altitude) (x : Fix) → Shows n alt x → FiniteFloats (fix n alt x) → Moves (fix n alt x)
 fix-moves n alt x h f =
     let s = fix n alt x in
-    let bytes = fix-bytes n alt x in
-    let sized = fix-sized n alt x in
     let metres = subst (λ (y : Float). isFinite y ≡ true) (metres-shown n alt x (h .held)) (h .finite) in
     let rules = fix-rules n alt x (h .few) (h .mask) (h .dof) (f .places) (f .claims) metres in
     let m = mirror-shown n alt x (h .mirror01) (h .mirror02) (h .mirror12) in
-    ruled-moves s bytes sized rules (mirrored s bytes sized rules (m .0) (m .1) (m .2))
+    ruled-moves s (fix-bytes n alt x) (fix-sized n alt x) rules (mirrored s (m .0) (m .1) (m .2))
 
 -- ---- every record
 

@@ -1,6 +1,6 @@
--- Document 02, item 7: "Every refusal that the solve writes, and every fix of its with finite floats, can be moved, and that
--- is to be proved". Of `mlat_solve` and `mlat_solve_receptions`, whose outputs are those of entry's definition. Definitions and
--- a statement only: proofs/Solved.antt proves it.
+-- Document 02, item 7: "Every refusal that the solve writes, and every fix of its with finite floats, can be moved, and
+-- that is to be proved". Of `mlat_solve` and `mlat_solve_receptions`, which leave what entry's `output` says.
+-- Definitions and a statement only: proofs/Solved.antt proves it.
 use Prim.Native.Nat.{ℕ, _+_, _*_, _<_, _≤_}
 use mathlib.Core.Path.{_≡_}
 use mathlib.Core.List.{List}
@@ -17,13 +17,13 @@ use Rattle.entry.specs.Reply.{answer, output}
 abbrev pub solvedRecord : Inputs → List ℕ → List ℕ
 solvedRecord I out = take 176 (output I out)
 
--- "with finite floats": ECEF, T and the position; the covariance and chi2. An altitude's metres always are, by the domain.
+-- "with finite floats": ECEF, T and the position; the covariance and chi2. An altitude's metres are, by the domain.
 pub record FiniteFloats (s : List ℕ) : Type 0 where
   pub places : (i : ℕ) → i < 7 → Finite s (16 + 8 * i)
   pub claims : (i : ℕ) → i < 10 → Finite s (80 + 8 * i)
 
--- "can be moved": the reader's rules hold of s, so that it is taken apart; nothing refuses its move, and it "comes back byte
--- for byte"
+-- "can be moved": the reader's rules hold of s, so that it is taken apart; nothing refuses its move, and it "comes back
+-- byte for byte"
 pub record Moves (s : List ℕ) : Type 0 where
   pub rules : Rules s
   pub read : readOf s ≡ given (contentAt s)

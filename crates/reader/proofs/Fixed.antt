@@ -1,10 +1,10 @@
 -- A fix that is written is read back: every field, from the record's table (`reads`). Assumes nothing.
-use Prim.Native.Nat.{ℕ, _+_, _%_, _^_, _<_, _≤_}
+use Prim.Native.Nat.{ℕ, _+_, _%_, _^_, _<_}
 use mathlib.Core.Path.{_≡_, refl, sym, ap, _∙_}
 use mathlib.Core.Bool.{true}
 use mathlib.Core.List.{List, [], _∷_, _++_}
 use native.Mathlib.Omega.{arith}
-use lib.Dec.{T, lit≤, lit<}
+use lib.Dec.{T, lit<}
 use lib.IntN.{ℤ}
 use lib.ListN.{length, drop, getD, set, length-replicate}
 use lib.Ieee.{Float, binary64, fits, toBits}

@@ -7,24 +7,23 @@ use mathlib.Core.Logic.{_⊎_, inl, inr}
 use mathlib.Core.List.{List}
 use native.Mathlib.Omega.{arith}
 use native.Mathlib.Nat.{lt-of-lt-of-le}
-use borrow.Author.Tests.{leb-true, leb-false, lt-leb}
+use borrow.Author.Tests.{leb-true, lt-leb}
 use lib.Dec.{T, leb, eqb, lit<}
 use lib.Pow.{pow-mono}
 use lib.ListN.{drop}
 use lib.Ieee.{Float, binary64, fits, ofBits, toBits}
 use Rattle.dense.specs.Entries.{nth}
-use Rattle.sets.specs.Sets.{count}
 use Rattle.sets.specs.Mask.{has}
 use Rattle.sets.proofs.Counting.{count-le}
 use Rattle.sets.proofs.Digits.{has-below}
-use Rattle.words.specs.Words.{wordAt, u16At, u64At, f64At}
+use Rattle.words.specs.Words.{u16At, u64At, f64At}
 use Rattle.words.proofs.Back.{lowest, zero-bytes}
 use Rattle.problem.specs.declared.Altitude.{Altitude}
 use Rattle.problem.specs.declared.Altitude.the-variants.{None, Barometric, Gnss}
 use Rattle.record.specs.declared.content.Fix.{Fix}
 use Rattle.record.specs.Record.{blank, kind, metres, fix, refusal}
 use Rattle.reader.specs.Rules.{answerAt, detailAt, nAt, maskAt, versionAt, kindAt, Zero, Finite, IsDof, DetailRule, Rules}
-use Rattle.reader.proofs.Table.{Word, putAll, Reads, first-read, whole-read, later-read, clear, stays}
+use Rattle.reader.proofs.Table.{Reads, first-read, whole-read, later-read, clear, stays}
 use Rattle.reader.proofs.Fixed.{bits, front, table, fix-table, table-read, answer-read, u32-back, byte-back, f64-back, kind-lt}
 use Rattle.reader.proofs.Value.{heads, refusal-table, heads-read, zero-at, zero-word}
 

@@ -4,7 +4,7 @@ use mathlib.Core.Path.{_≡_, refl, sym, ap, _∙_}
 use mathlib.Core.Bool.{Bool, true, false, cond, _&&_}
 use mathlib.Core.List.{List, [], _∷_}
 use native.Mathlib.Omega.{arith}
-use lib.Dec.{leb, eqb, lit≤, lit<}
+use lib.Dec.{leb, eqb, lit<}
 use lib.IntN.{pos}
 use lib.ListN.{length, getD, set, replicate, length-replicate}
 use lib.Ieee.{Float}

@@ -1,5 +1,5 @@
--- Document 02, item 7: "The covariance is symmetric", of every fix. Definitions and statements only: proofs/Mirrors.antt
--- proves them.
+-- Document 02, item 7: "The covariance is symmetric", of every fix. Definitions and statements only:
+-- proofs/Mirrors.antt proves them.
 use mathlib.Core.Path.{_≡_}
 use mathlib.Core.List.{List, [], _∷_}
 use Prim.Native.Nat.{ℕ}
@@ -21,7 +21,8 @@ covariance x = x .r0 ∷ x .r1 ∷ x .r2 ∷ []
 -- the mirrored entries of every fix that `finish` gives are equal to the bit
 abbrev pub FinishMirrored : Type 0
 FinishMirrored =
-    (mask dof : ℕ) (reference : ℤ) (fit : Fit) (x : Fix) → finish mask dof reference fit ≡ gives x → Mirrored (covariance x)
+    (mask dof : ℕ) (reference : ℤ) (fit : Fit) (x : Fix)
+    → finish mask dof reference fit ≡ gives x → Mirrored (covariance x)
 
 -- and so are those of every fix of the solve
 abbrev pub FixMirrored : Type 0
