@@ -1,5 +1,5 @@
--- Which results are symmetric to the bit, for every size, every factor and every number. Definitions and statements only:
--- proofs/Symmetry.antt proves them.
+-- Which results are symmetric to the bit, for every size, every factor and every number. Definitions and statements
+-- only: proofs/Symmetry.antt proves them.
 use mathlib.Core.Path.{_≡_}
 use mathlib.Core.List.{List}
 use Prim.Native.Nat.{ℕ, _*_, _≤_, _<_}

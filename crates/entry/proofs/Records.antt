@@ -28,7 +28,7 @@ use Rattle.inputs.specs.Domain.{goodMetres}
 use Rattle.inputs.specs.Faults.{numberOf, detailOf}
 use Rattle.inputs.specs.InDomain.{altitudeGood}
 use Rattle.inputs.specs.Inputs.{Inputs, checkInputs, altitudeOf, problemOf}
-use Rattle.inputs.proofs.Details.{Located, located}
+use Rattle.inputs.proofs.Places.{Located, located}
 use Rattle.inputs.proofs.Order.{passed-altitude}
 use Rattle.inputs.proofs.Sound.{metres-good}
 use Rattle.rounds.specs.declared.answer.Refusal.{Refusal}

@@ -1,8 +1,8 @@
--- The laws that the proofs share. Order, Alike and Details serve the crates above too.
+-- The laws that the proofs share. Order, Alike and Places serve the crates above too.
 pub mod Limits
 pub mod Alike
 pub mod Steps
 pub mod Order
 pub mod Sound
 pub mod Ties
-pub mod Details
+pub mod Places
