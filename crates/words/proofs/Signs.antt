@@ -1,5 +1,5 @@
--- An i64 and its bits in two's complement. Assumes nothing.
-use Prim.Native.Nat.{ℕ, zero, suc, _-_, _<_, _≤_, _^_}
+-- A signed number and its bits in two's complement. Assumes nothing.
+use Prim.Native.Nat.{ℕ, zero, suc, _+_, _-_, _<_, _≤_, _^_}
 use mathlib.Core.Path.{_≡_, refl, ap}
 use mathlib.Core.Bool.{true, false}
 use native.Mathlib.Omega.{arith}
@@ -7,24 +7,26 @@ use lib.Dec.{T}
 use borrow.Author.Tests.{ltb-true, le-ltb}
 use lib.IntN.{ℤ, pos, negsuc, _-ℤ_, natAbs}
 use lib.Signed.{ltZ, nonNeg}
-use mir.Syntax.{w64}
-use mir.Val.{toZ, ofZ, SFits}
-use mir.ValLaws.{toZ-pos, toZ-ofZ}
+use mir.Syntax.{Width, w64}
+use mir.Val.{bits, hbits, toZ, ofZ, SFits}
+use mir.ValLaws.{pow-bits, toZ-pos, toZ-ofZ}
 
 -- -1 - y
 less-one : (y : ℕ) → negsuc 0 -ℤ pos y ≡ negsuc y
 less-one zero = refl
 less-one (suc y) = ap negsuc (omega arith)
 
-pub negative-fits : (y : ℕ) → y < 2 ^ 63 → SFits w64 (negsuc 0 -ℤ toZ w64 y)
-negative-fits y h = rw (toZ-pos w64 y h, less-one y) (record { sfits = h })
+module _ (w : Width) where
+  pub negative-fits : (y : ℕ) → y < 2 ^ hbits w → SFits w (negsuc 0 -ℤ toZ w y)
+  negative-fits y h = rw (toZ-pos w y h, less-one y) (record { sfits = h })
 
-pub negative : (x : ℕ) → 2 ^ 63 ≤ x → x < 2 ^ 64 → toZ w64 (ofZ w64 (negsuc 0 -ℤ toZ w64 (18446744073709551615 - x))) ≡ toZ w64 x
-negative x h l =
-    let y : ℕ = 18446744073709551615 - x in
-    let hy : y < 2 ^ 63 = omega arith in
-    let e : 2 ^ 64 - suc y ≡ x = omega arith in
-    rw (toZ-pos w64 y hy, less-one y) (ap (toZ w64) e)
+  -- `last` is the greatest number that the width holds
+  pub negative : (last x : ℕ) → last + 1 ≡ 2 ^ bits w → 2 ^ hbits w ≤ x → x ≤ last → toZ w (ofZ w (negsuc 0 -ℤ toZ w (last - x))) ≡ toZ w x
+  negative last x f h l =
+      let y : ℕ = last - x in
+      let hy : y < 2 ^ hbits w = omega (arith, pow-bits w) in
+      let e : 2 ^ bits w - suc y ≡ x = omega arith in
+      rw (toZ-pos w y hy, less-one y) (ap (toZ w) e)
 
 -- -1 - (-1 - m)
 over : (m : ℕ) → negsuc 0 -ℤ negsuc m ≡ pos m

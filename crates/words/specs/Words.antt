@@ -4,7 +4,7 @@ use mathlib.Core.List.{List}
 use lib.ListN.{getD, set}
 use lib.IntN.{ℤ}
 use lib.Ieee.{Float, binary64, toBits}
-use mir.Syntax.{w64}
+use mir.Syntax.{w32, w64}
 use mir.Val.{toZ, ofZ}
 use Rattle.binary64.specs.Steps.{#}
 
@@ -29,6 +29,11 @@ u32At s k = wordAt 4 s k
 unfoldable pub u64At : List ℕ → ℕ → ℕ
 unfolding wordAt
 u64At s k = wordAt 8 s k
+
+-- two's complement
+unfoldable pub i32At : List ℕ → ℕ → ℤ
+unfolding u32At
+i32At s k = toZ w32 (u32At s k)
 
 -- two's complement
 unfoldable pub i64At : List ℕ → ℕ → ℤ

@@ -5,14 +5,18 @@ ghost use Prim.Native.Nat.{_+_, _<_, _≤_, _^_};
 ghost use lib.ListN.{length};
 ghost use mir.Syntax.{w64};
 ghost use mir.Val.{ofZ};
-ghost use Rattle.words.specs.Words.{wordAt, u16At, u32At, u64At, i64At, f64At};
+ghost use Rattle.words.specs.Words.{wordAt, u16At, u32At, u64At, i32At, i64At, f64At};
 ghost use Rattle.words.specs.Words.{putU16, putU32, putU64, putI64, putF64};
 
-// How many numbers two bytes hold, and four; the greatest that eight hold; the least of those whose
-// sign bit is set.
+// How many numbers two bytes hold, and four; the greatest that four hold, and the least of those whose
+// sign bit is set; the same of eight.
 const TWO_BYTES: u64 = 0x1_0000;
 
 const FOUR_BYTES: u64 = 0x1_0000_0000;
+
+const LAST_OF_FOUR: u32 = 0xffff_ffff;
+
+const SIGN_OF_FOUR: u32 = 0x8000_0000;
 
 const LAST: u64 = 0xffff_ffff_ffff_ffff;
 
@@ -58,6 +62,18 @@ pub fn u64_at(s: &[u8], k: usize) -> u64
     ensures { λ r. ⌜ r ≡ u64At (now (s .entry)) k ⌝ }
 {
     quad_at(s, k) + FOUR_BYTES * quad_at(s, k + 4)
+}
+
+pub fn i32_at(s: &[u8], k: usize) -> i32
+    requires { ⌜ k + 4 ≤ length (now s) ⌝ }
+    ensures { λ r. ⌜ r ≡ i32At (now (s .entry)) k ⌝ }
+{
+    let x = u32_at(s, k);
+    if x < SIGN_OF_FOUR {
+        return x as i32;
+    }
+    let below = (LAST_OF_FOUR - x) as i32;
+    -1 - below
 }
 
 pub fn i64_at(s: &[u8], k: usize) -> i64

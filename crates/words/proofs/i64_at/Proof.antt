@@ -1,8 +1,9 @@
 -- `words::i64_at` meets its contract: from the sign on, the number is -1 less what the word lacks of its greatest value (`negative`). Assumes nothing.
 use borrow.Author.Needs.{needs}
-use mathlib.Core.Path.{_∙_}
+use mathlib.Core.Path.{refl, _∙_}
 use Prim.Native.Nat.{_-_}
 use native.Mathlib.Omega.{arith}
+use mir.Syntax.{w64}
 use Rattle.words.specs.Words.{i64At}
 use Rattle.words.proofs.Signs.{negative-fits, negative}
 use Rattle.words.proofs.i64_at.Statement.{statement}
@@ -25,11 +26,11 @@ cast-below : tie.Need-cast-below
 cast-below c = search needs
 
 sub-result : tie.Need-sub-result
-sub-result c = negative-fits (18446744073709551615 - c .before .u64-at .result) (omega arith)
+sub-result c = negative-fits w64 (18446744073709551615 - c .before .u64-at .result) (omega arith)
 
 returns-2 : tie.Need-returns-2
 unfolding i64At
-returns-2 c = negative (c .before .u64-at .result) (omega arith) (omega arith) ∙ rw (c .before .u64-at .ensures)
+returns-2 c = negative w64 18446744073709551615 (c .before .u64-at .result) refl (omega arith) (omega arith) ∙ rw (c .before .u64-at .ensures)
 
 pub i64-at-spec : {M : Type 1} → statement M
 i64-at-spec =
