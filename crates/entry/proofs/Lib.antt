@@ -4,3 +4,4 @@ pub mod Unpacked
 pub mod Cut
 pub mod Outputs
 pub mod Records
+pub mod Correction

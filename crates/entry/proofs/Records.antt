@@ -27,7 +27,7 @@ use Rattle.inputs.specs.declared.Check.the-variants.{Passed, Refused}
 use Rattle.inputs.specs.Domain.{goodMetres}
 use Rattle.inputs.specs.Faults.{numberOf, detailOf}
 use Rattle.inputs.specs.InDomain.{altitudeGood}
-use Rattle.inputs.specs.Inputs.{Inputs, checkInputs, altitudeOf, problemOf}
+use Rattle.inputs.specs.Inputs.{Inputs, checkInputs, kindAt, correctionAt, metresAt, corrected, altitudeOf, shownOf, problemOf}
 use Rattle.inputs.proofs.Places.{Located, located}
 use Rattle.inputs.proofs.Order.{passed-altitude}
 use Rattle.inputs.proofs.Sound.{metres-good}
@@ -92,10 +92,13 @@ considered k n f h = go (leb n 32) refl
 abbrev Counts : Altitude → Altitude → Type 0
 Counts solved seen = _≡_ {A = ℕ} (cond (hasAltitude solved) 1 0) (cond (eqb (kind seen) 0) 0 1)
 
-altitude-counts : (alt : Altitude) → Counts alt alt
-altitude-counts None = refl
-altitude-counts (Barometric m) = refl
-altitude-counts (Gnss m) = refl
+altitude-counts : (alt : Option (List ℕ)) → Counts (altitudeOf alt) (shownOf alt)
+altitude-counts none = refl
+altitude-counts (some a) = go (eqb (kindAt a) 1) (corrected (metresAt a) (correctionAt a)) (metresAt a)
+  where
+    go : (b : Bool) (x y : Float) → Counts (cond b (Barometric x) (Gnss y)) (cond b (Barometric y) (Gnss y))
+    go true x y = refl
+    go false x y = refl
 
 -- what lies within limits is finite
 good-finite : (x : Float) → goodMetres x ≡ true → isFinite x ≡ true
@@ -111,10 +114,10 @@ metres-finite None e = refl
 metres-finite (Barometric m) e = good-finite m e
 metres-finite (Gnss m) e = good-finite m e
 
-metres-held : (alt : Option (List ℕ)) → T (fits binary64 (metres (altitudeOf alt)))
+metres-held : (alt : Option (List ℕ)) → T (fits binary64 (metres (shownOf alt)))
 unfolding f64At
 metres-held none = ofBits-fits binary64 0
-metres-held (some a) = go (eqb (u64At a 0) 1)
+metres-held (some a) = go (eqb (kindAt a) 1)
   where
     go : (b : Bool) → T (fits binary64 (metres (cond b (Barometric (f64At a 8)) (Gnss (f64At a 8)))))
     go true = ofBits-fits binary64 (u64At a 8)
@@ -166,6 +169,6 @@ reply-written I = go (checkInputs I) refl
     go (Refused fault) e =
         refused (detailOf fault) (I .n) (fault-told fault (located I fault e)) (considered (numberOf fault) (I .n) (many-away I fault e)) refl
     go Passed e =
-        let alt = altitudeOf (I .altitude) in
+        let alt = shownOf (I .altitude) in
         let finite = metres-finite alt (metres-good (I .altitude) (passed-altitude I e)) in
-        answer-written I e alt (altitude-counts alt) (metres-held (I .altitude)) finite (solveProblem (problemOf I)) refl
+        answer-written I e alt (altitude-counts (I .altitude)) (metres-held (I .altitude)) finite (solveProblem (problemOf I)) refl

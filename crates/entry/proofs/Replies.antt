@@ -116,9 +116,9 @@ module _ (I : Inputs) (k : Check) (K : k ≡ checkInputs I) where
   unfolding reply
   refused-reply r fault e h = h ∙ ap (λ (c : Check). replied c I) (sym e ∙ K)
 
-  pub problem-reply : (r : Reply) (p : Problem) → k ≡ Passed → p ≡ problemOf I → r ≡ answered (I .n) (p .altitude) (solveProblem p) → r ≡ reply I
+  pub problem-reply : (r : Reply) (p : Problem) → k ≡ Passed → p ≡ problemOf I → r ≡ answered (I .n) (p .shown) (solveProblem p) → r ≡ reply I
   unfolding reply
   problem-reply r p e P h =
       h
-      ∙ ap (λ (q : Problem). answered (I .n) (q .altitude) (solveProblem q)) P
+      ∙ ap (λ (q : Problem). answered (I .n) (q .shown) (solveProblem q)) P
       ∙ ap (λ (c : Check). replied c I) (sym e ∙ K)

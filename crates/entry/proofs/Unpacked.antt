@@ -57,7 +57,7 @@ module _ (f : Fields) (n : ℕ) (at : ℕ → Reception) (filled : n ≤ 32 → 
     where
       go : (c : Check) → checkInputs J ≡ c → replied (checkInputs I) I ≡ replied (checkInputs J) J
       go (Refused fault) e = ap (λ (c : Check). replied c I) (check ∙ e) ∙ sym (ap (λ (c : Check). replied c J) e)
-      go Passed e = ap (λ (c : Check). replied c I) (check ∙ e) ∙ ap (λ (p : Problem). answered n (p .altitude) (solveProblem p)) (problem e) ∙ sym (ap (λ (c : Check). replied c J) e)
+      go Passed e = ap (λ (c : Check). replied c I) (check ∙ e) ∙ ap (λ (p : Problem). answered n (p .shown) (solveProblem p)) (problem e) ∙ sym (ap (λ (c : Check). replied c J) e)
 
   pub solved : (out after : List ℕ) (r : ℕ) → Solved I out r after → Solved J out r after
   solved out after r s = (

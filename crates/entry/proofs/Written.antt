@@ -19,7 +19,7 @@ module _ (I : Inputs) (passes : checkInputs I ≡ Passed) where
   unfolding problemOf
   small = few I passes
 
-  shown : reply I .bytes ≡ recordOf (problemOf I .n) (problemOf I .altitude) (solveProblem (problemOf I))
+  shown : reply I .bytes ≡ recordOf (problemOf I .n) (problemOf I .shown) (solveProblem (problemOf I))
   unfolding reply problemOf
   shown = ap (λ (c : Check). replied c I .bytes) passes
 

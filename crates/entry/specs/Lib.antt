@@ -1,3 +1,4 @@
 pub mod Reply
 pub mod Cut
 pub mod Outputs
+pub mod Correction

@@ -42,7 +42,7 @@ listed receptions clock altitude reference present = inputsOf true (length recep
 
 -- ---- the reply: document 01's answer number, and the 176 bytes
 
--- the record of an answer to a problem of n receptions with this altitude
+-- the record of an answer to a problem of n receptions that shows this altitude
 abbrev pub recordOf : ℕ → Altitude → Answer Fix → List ℕ
 recordOf n altitude (fix x) = shown.fix n altitude x
 recordOf n altitude (refused why) = refusal (number (refused why)) (detail (refused why)) n
@@ -56,7 +56,7 @@ turnedAway fault n = record { number = numberOf fault; bytes = refusal (numberOf
 
 abbrev pub replied : Check → Inputs → Reply
 replied (Refused fault) I = turnedAway fault (I .n)
-replied Passed I = answered (I .n) (problemOf I .altitude) (solveProblem (problemOf I))
+replied Passed I = answered (I .n) (problemOf I .shown) (solveProblem (problemOf I))
 
 unfoldable pub reply : Inputs → Reply
 reply I = replied (checkInputs I) I
@@ -75,5 +75,5 @@ output I out = cond (ltb (length out) 176) out (stored out (reply I .bytes))
 pub record Demanded (P : Problem) (out : List ℕ) : Type 0 where
   pub answer : Answer Fix
   pub demand : Demand P answer
-  pub written : take 176 out ≡ recordOf (P .n) (P .altitude) answer
+  pub written : take 176 out ≡ recordOf (P .n) (P .shown) answer
   pub alone : (other : Answer Fix) → Claim (rounds P) other → other ≡ answer

@@ -127,8 +127,8 @@ fn reply_to(
         Check::Refused(fault) => turned_away(fault, n),
         Check::Passed => {
             let p = inputs::problem_of(f, n, g, clock, altitude, reference);
-            let kind = p.altitude;
-            answered(n as u32, kind, rounds::solve_problem(p))
+            let shown = p.shown;
+            answered(n as u32, shown, rounds::solve_problem(p))
         }
     }
 }

@@ -73,5 +73,5 @@ module _ (f : Fields) (n : ℕ) (at : ℕ → Reception) (filled : n ≤ 32 → 
     pub same-problem : n ≤ 32 → problemOf (I (receptionIn f)) ≡ problemOf (I at)
     unfolding problemOf
     same-problem few =
-        ap₂ (λ (h : Fields) (s : List Float). made n h s (problemOf (I at) .«clock_m2») (problemOf (I at) .altitude) (problemOf (I at) .«reference_ps»))
+        ap₂ (λ (h : Fields) (s : List Float). made n h s (problemOf (I at) .«clock_m2») (problemOf (I at) .altitude) (problemOf (I at) .«reference_ps») (problemOf (I at) .shown))
         (fields-alike (receptionIn f) at n (held few)) (sites-alike (receptionIn f) at n (held few))

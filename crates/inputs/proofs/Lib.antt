@@ -1,8 +1,10 @@
 -- The laws that the proofs share. Order, Alike and Places serve the crates above too.
 pub mod Limits
+pub mod Correction
 pub mod Alike
 pub mod Steps
 pub mod Order
 pub mod Sound
 pub mod Ties
 pub mod Places
+pub mod Uncorrected

@@ -18,3 +18,7 @@ tera = refl
 pub high : decimal 100000 0 ≡ # 0x40F86A0000000000
 unfolding round ofBits
 high = refl
+
+pub hundred : decimal 100 0 ≡ # 0x4059000000000000
+unfolding round ofBits
+hundred = refl

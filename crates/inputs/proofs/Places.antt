@@ -9,7 +9,6 @@ use native.Mathlib.Omega.{arith}
 use borrow.Author.Tests.{leb-true}
 use lib.Dec.{T, eqb, leb}
 use lib.ListN.{length}
-use Rattle.words.specs.Words.{u64At, f64At}
 use Rattle.receptions.specs.declared.Reception.{Reception}
 use Rattle.inputs.specs.declared.Fault.{Fault}
 use Rattle.inputs.specs.declared.Fault.the-variants.{TornInput, TooMany, Disorder, BadField, ClockSize, Uncovered}
@@ -18,7 +17,7 @@ use Rattle.inputs.specs.declared.Check.the-variants.{Passed, Refused}
 use Rattle.inputs.specs.Domain.{goodReception, goodAltitude}
 use Rattle.inputs.specs.Faults.{orElse, unless, firstTo}
 use Rattle.inputs.specs.Inputs.{Inputs, whole, ascends, checkReception, goodRowTo, checkRow, checkClock, checkAltitude}
-use Rattle.inputs.specs.Inputs.{checkCovered, checkInputs}
+use Rattle.inputs.specs.Inputs.{kindAt, correctionAt, metresAt, checkCovered, checkInputs}
 
 -- of a disorder "index", which is that of the later one; of a bad field "index; 100 + row for clock; 200 for altitude"
 abbrev pub Located : Fault → Type 0
@@ -69,7 +68,8 @@ clock-locates (some clock) n h =
 
 altitude-locates : (altitude : Option (List ℕ)) → Locates (checkAltitude altitude)
 altitude-locates none = tt
-altitude-locates (some altitude) = unless-locates (goodAltitude (u64At altitude 0) (f64At altitude 8)) (BadField 200) (inr (inr refl))
+altitude-locates (some altitude) =
+    unless-locates (goodAltitude (kindAt altitude) (correctionAt altitude) (metresAt altitude)) (BadField 200) (inr (inr refl))
 
 covered-locates : (clock : Option (List ℕ)) → Locates (checkCovered clock)
 covered-locates none = tt

@@ -25,9 +25,8 @@ use Rattle.inputs.specs.declared.Fault.the-variants.{Disorder, BadField}
 use Rattle.inputs.specs.declared.Check.the-variants.{Passed}
 use Rattle.inputs.specs.declared.Given.{Given}
 use Rattle.inputs.specs.Faults.{unless, firstTo}
-use Rattle.words.specs.Words.{u64At, f64At}
-use Rattle.inputs.specs.Domain.{goodTime, goodCoordinate, goodSite, goodZ, goodNoise, goodReception, goodEntry, goodMetres, goodAltitude}
-use Rattle.inputs.specs.Inputs.{entryAt, Inputs, inputsOf, ascends, checkReception, goodRowTo, checkRow, checkAltitude, checkInputs, metresOf, upperAt, altitudeOf, referenceOf, problemOf}
+use Rattle.inputs.specs.Domain.{goodTime, goodCoordinate, goodSite, goodZ, goodNoise, goodReception, goodEntry, goodMetres, goodCorrection, isZero, goodAltitude}
+use Rattle.inputs.specs.Inputs.{entryAt, Inputs, inputsOf, ascends, checkReception, goodRowTo, checkRow, kindAt, correctionAt, metresAt, checkAltitude, checkInputs, metresOf, upperAt, altitudeOf, shownOf, referenceOf, problemOf}
 use Rattle.inputs.specs.InDomain.{InDomain, Ascending, altitudeGood}
 use Rattle.inputs.proofs.Order.{both-of, good-of, or-of, few, passed-receptions, passed-clock, passed-altitude, is-covered, clock-of, first-of}
 use Rattle.receptions.specs.Identities.{before}
@@ -97,15 +96,18 @@ unfolding upperAt
 upper clock n i j h l = rw (digits-div i l, digits-mod i l, le-leb i j h)
 
 -- ---- an altitude that passes
-tested : (kind : ℕ) (metres : Float) → goodAltitude kind metres ≡ true → goodMetres metres ≡ true
+tested : (kind : ℕ) (correction : ℤ) (metres : Float) → goodAltitude kind correction metres ≡ true → goodMetres metres ≡ true
 unfolding goodAltitude
-tested kind metres e = both-of (eqb kind 1 || eqb kind 2) (goodMetres metres) e .1
+tested kind correction metres e = both-of ((eqb kind 1 && goodCorrection correction) || (eqb kind 2 && isZero correction)) (goodMetres metres) e .1
 
-pub metres-good : (alt : Option (List ℕ)) → checkAltitude alt ≡ Passed → altitudeGood (altitudeOf alt) ≡ true
+pub passed-metres : (a : List ℕ) → checkAltitude (some a) ≡ Passed → goodMetres (metresAt a) ≡ true
+passed-metres a e = tested (kindAt a) (correctionAt a) (metresAt a) (good-of (goodAltitude (kindAt a) (correctionAt a) (metresAt a)) (BadField 200) e)
+
+pub metres-good : (alt : Option (List ℕ)) → checkAltitude alt ≡ Passed → altitudeGood (shownOf alt) ≡ true
 metres-good none e = refl
-metres-good (some a) e = go (eqb (u64At a 0) 1) (tested (u64At a 0) (f64At a 8) (good-of (goodAltitude (u64At a 0) (f64At a 8)) (BadField 200) e))
+metres-good (some a) e = go (eqb (kindAt a) 1) (passed-metres a e)
   where
-    go : (first : Bool) → goodMetres (f64At a 8) ≡ true → altitudeGood (cond first (Barometric (f64At a 8)) (Gnss (f64At a 8))) ≡ true
+    go : (first : Bool) → goodMetres (metresAt a) ≡ true → altitudeGood (cond first (Barometric (metresAt a)) (Gnss (metresAt a))) ≡ true
     go true f = f
     go false f = f
 
@@ -173,8 +175,8 @@ module _ (n : ℕ) (from : ℕ → Reception) (g : Given) (b alt ref : List ℕ)
         }
 
 -- ---- the problem, of its parts
-abbrev pub made : ℕ → Fields → List Float → List Float → Altitude → ℤ → Problem
-made n f site clock altitude reference =
+abbrev pub made : ℕ → Fields → List Float → List Float → Altitude → ℤ → Altitude → Problem
+made n f site clock altitude reference shown =
     record {
       n = n;
       time = f .time;
@@ -185,6 +187,7 @@ made n f site clock altitude reference =
       «clock_m2» = clock;
       altitude = altitude;
       «reference_ps» = reference;
+      shown = shown;
     }
 
 module _ (f : Fields) (n : ℕ) (g : Given) (b alt ref : List ℕ) (pre : (f ≡ fieldsOf (receptionIn f) n) × (checkInputs (inputsOf true n (receptionIn f) g b alt ref) ≡ Passed)) where
@@ -192,12 +195,13 @@ module _ (f : Fields) (n : ℕ) (g : Given) (b alt ref : List ℕ) (pre : (f ≡
   J = inputsOf true n (receptionIn f) g b alt ref
 
   pub is-problem
-      : {site clock : List Float} {altitude : Altitude} {reference : ℤ}
+      : {site clock : List Float} {altitude shown : Altitude} {reference : ℤ}
       → site ≡ metresOf (receptionIn f) n → clock ≡ covarianceOf b n → altitude ≡ altitudeOf (J .altitude) → reference ≡ referenceOf (J .reference)
-      → (made n f site clock altitude reference ≡ problemOf J) × InDomain (made n f site clock altitude reference) × Ascending (receptionIn f) n
+      → shown ≡ shownOf (J .altitude)
+      → (made n f site clock altitude reference shown ≡ problemOf J) × InDomain (made n f site clock altitude reference shown) × Ascending (receptionIn f) n
   unfolding problemOf
-  is-problem s c a r =
-      let e : made n f (metresOf (receptionIn f) n) (covarianceOf b n) (altitudeOf (J .altitude)) (referenceOf (J .reference)) ≡ problemOf J
-      = ap₂ (λ (h : Fields) (k : List ℕ). made n h (metresOf (receptionIn f) n) (covarianceOf k n) (altitudeOf (J .altitude)) (referenceOf (J .reference)))
+  is-problem s c a r d =
+      let e : made n f (metresOf (receptionIn f) n) (covarianceOf b n) (altitudeOf (J .altitude)) (referenceOf (J .reference)) (shownOf (J .altitude)) ≡ problemOf J
+      = ap₂ (λ (h : Fields) (k : List ℕ). made n h (metresOf (receptionIn f) n) (covarianceOf k n) (altitudeOf (J .altitude)) (referenceOf (J .reference)) (shownOf (J .altitude)))
       (pre .0) (sym (clock-whole n (receptionIn f) g b alt ref (pre .1) .0)) in
-      rw (s, c, a, r) (e, subst InDomain (sym e) (in-domain n (receptionIn f) g b alt ref (pre .1)), ascending n (receptionIn f) g b alt ref (pre .1))
+      rw (s, c, a, r, d) (e, subst InDomain (sym e) (in-domain n (receptionIn f) g b alt ref (pre .1)), ascending n (receptionIn f) g b alt ref (pre .1))

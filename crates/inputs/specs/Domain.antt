@@ -1,5 +1,5 @@
 -- Document 01's domain: "Every end is included; float limits are compared in binary64." Definitions only.
-use mathlib.Core.Bool.{Bool, cond, _&&_, _||_}
+use mathlib.Core.Bool.{Bool, false, cond, _&&_, _||_}
 use mathlib.Core.List.{List}
 use Prim.Native.Nat.{ℕ}
 use lib.Dec.{eqb}
@@ -48,6 +48,16 @@ goodEntry i j x = let limit = decimal 1000000000000 0 in within (cond (eqb i j) 
 unfoldable pub goodMetres : Float → Bool
 goodMetres = let limit = decimal 100000 0 in within (neg limit) limit
 
--- "altitude kind 1 or 2"
-unfoldable pub goodAltitude : ℕ → Float → Bool
-goodAltitude kind metres = (eqb kind 1 || eqb kind 2) && goodMetres metres
+-- Document 02, Item 8: "an i32 in centimetres, within ±100,000"
+abbrev pub goodCorrection : ℤ → Bool
+goodCorrection = between (negsuc 99999) (pos 100000)
+
+abbrev pub isZero : ℤ → Bool
+isZero (pos x) = eqb x 0
+isZero (negsuc x) = false
+
+-- "altitude kind 1 or 2". Document 02, Item 8: "For GNSS it must be 0"; "The domain test on metres is made before the
+-- addition."
+unfoldable pub goodAltitude : ℕ → ℤ → Float → Bool
+goodAltitude kind correction metres =
+    ((eqb kind 1 && goodCorrection correction) || (eqb kind 2 && isZero correction)) && goodMetres metres

@@ -25,7 +25,8 @@ pub record InDomain (p : Problem) : Type 0 where
   pub zs : (i : ℕ) → i < p .n → goodZ (nth (p .z) i) ≡ true
   pub noises : (i : ℕ) → i < p .n → goodNoise (nth (p .«noise_m2») i) ≡ true
   pub clock : (i j : ℕ) → i ≤ j → j < p .n → goodEntry i j (at (p .«clock_m2») (p .n) i j) ≡ true
-  pub altitude : altitudeGood (p .altitude) ≡ true
+  -- as given: with its correction the altitude may be beyond the domain of metres
+  pub altitude : altitudeGood (p .shown) ≡ true
 
 -- "identities strictly ascending": of any two of the first n receptions the earlier comes before the later
 abbrev pub Ascending : (ℕ → Reception) → ℕ → Type 0

@@ -6,11 +6,11 @@ use Prim.Native.Nat.{ℕ, zero, suc, _+_, _*_, _-_, _/_, _%_}
 use lib.Dec.{leb, eqb}
 use lib.IntN.{ℤ, pos}
 use lib.ListN.{length}
-use lib.Ieee.{Float}
-use Rattle.binary64.specs.Steps.{nought}
+use lib.Ieee.{Float, binary64, ofInt}
+use Rattle.binary64.specs.Steps.{_⊕_, _⊘_, decimal, nought}
 use Rattle.dense.specs.Entries.{nth}
 use Rattle.geo.specs.Geo.{fromMm}
-use Rattle.words.specs.Words.{u64At, i64At, f64At}
+use Rattle.words.specs.Words.{u32At, i32At, i64At, f64At}
 use Rattle.problem.specs.declared.Altitude.{Altitude}
 use Rattle.problem.specs.declared.Altitude.the-variants.{None, Barometric, Gnss}
 use Rattle.problem.specs.declared.Problem.{Problem}
@@ -23,7 +23,7 @@ use Rattle.inputs.specs.declared.Check.{Check}
 use Rattle.inputs.specs.declared.Check.the-variants.{Passed, Refused}
 use Rattle.inputs.specs.declared.Given.{Given}
 use Rattle.inputs.specs.Faults.{orElse, unless, firstTo}
-use Rattle.inputs.specs.Domain.{goodReception, goodEntry, goodAltitude}
+use Rattle.inputs.specs.Domain.{isZero, goodReception, goodEntry, goodAltitude}
 
 -- the receptions (whether they came whole, how many, and each), and the bytes of clock.bin, altitude.bin and reference.bin
 pub record Inputs : Type 0 where
@@ -79,10 +79,22 @@ abbrev pub checkClock : Option (List ℕ) → ℕ → Check
 checkClock none n = Passed
 checkClock (some clock) n = orElse (unless (eqb (length clock) (8 * (n * n))) ClockSize) (firstTo (checkRow clock n) n)
 
--- "`altitude.bin`: kind byte, seven zero bytes, metres f64". The kind and the zero bytes are one u64, which is the kind.
+-- "`altitude.bin`: kind byte, seven zero bytes, metres f64". Document 02, Item 8: "Bytes 4 to 7 of `altitude.bin` become
+-- an i32 in centimetres". The kind and the three zero bytes that are left are one u32, which is the kind.
+abbrev pub kindAt : List ℕ → ℕ
+kindAt altitude = u32At altitude 0
+
+abbrev pub correctionAt : List ℕ → ℤ
+correctionAt altitude = i32At altitude 4
+
+abbrev pub metresAt : List ℕ → Float
+metresAt altitude = f64At altitude 8
+
+-- "a value outside its rule is bad field 200"
 abbrev pub checkAltitude : Option (List ℕ) → Check
 checkAltitude none = Passed
-checkAltitude (some altitude) = unless (goodAltitude (u64At altitude 0) (f64At altitude 8)) (BadField 200)
+checkAltitude (some altitude) =
+    unless (goodAltitude (kindAt altitude) (correctionAt altitude) (metresAt altitude)) (BadField 200)
 
 -- 7: "no clock covariance"
 abbrev pub checkCovered : Option (List ℕ) → Check
@@ -107,9 +119,23 @@ metresOf at n = fillTo (floats 96) (λ k. nth (fromMm (at (k / 3) .«site_mm»))
 unfoldable pub upperAt : List ℕ → ℕ → ℕ → Float
 upperAt clock n k = cond (leb (k / n) (k % n)) (entryAt clock n (k / n) (k % n)) nought
 
+-- Document 02, Item 8: "added to barometric metres by one division by 100 and one addition"; "A correction of 0 is not
+-- added at all"
+unfoldable pub corrected : Float → ℤ → Float
+corrected metres correction = cond (isZero correction) metres (metres ⊕ ofInt binary64 correction ⊘ decimal 100 0)
+
+-- the altitude that is solved with
 abbrev pub altitudeOf : Option (List ℕ) → Altitude
 altitudeOf none = None
-altitudeOf (some altitude) = let metres = f64At altitude 8 in cond (eqb (u64At altitude 0) 1) (Barometric metres) (Gnss metres)
+altitudeOf (some altitude) =
+    let metres = metresAt altitude in
+    cond (eqb (kindAt altitude) 1) (Barometric (corrected metres (correctionAt altitude))) (Gnss metres)
+
+-- "The fix shows the metres as given."
+abbrev pub shownOf : Option (List ℕ) → Altitude
+shownOf none = None
+shownOf (some altitude) =
+    let metres = metresAt altitude in cond (eqb (kindAt altitude) 1) (Barometric metres) (Gnss metres)
 
 -- "absent means 0"
 abbrev pub referenceOf : Option (List ℕ) → ℤ
@@ -130,4 +156,5 @@ problemOf I =
       «clock_m2» = fillTo (floats 1024) (upperAt (Option·getD (I .clock) []) n) (n * n);
       altitude = altitudeOf (I .altitude);
       «reference_ps» = referenceOf (I .reference);
+      shown = shownOf (I .altitude);
     }

@@ -2,3 +2,4 @@ pub mod Faults
 pub mod Domain
 pub mod Inputs
 pub mod InDomain
+pub mod Uncorrected

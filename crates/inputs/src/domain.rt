@@ -1,11 +1,11 @@
-// The domain of document 01, every end included.
+// The domain of documents 01 and 02, every end included.
 ghost use mathlib.Core.Path.{_≡_};
 ghost use mathlib.Core.Bool.{_&&_};
 ghost use Rattle.inputs.specs.Domain as domain;
 use receptions::Reception;
 
 // The ends of the domain, by document 01: picoseconds, millimetres, metres, square metres (three of
-// them) and metres.
+// them) and metres; by document 02: centimetres.
 const TIME: i64 = 10_000_000_000_000;
 
 const COORDINATE: i64 = 10_000_000_000;
@@ -19,6 +19,8 @@ const NOISE: f64 = 1e12;
 const CLOCK: f64 = 1e12;
 
 const ALTITUDE: f64 = 100_000.0;
+
+const CORRECTION: i32 = 100_000;
 
 pub fn both(a: bool, b: bool) -> bool
     ensures { λ r. ⌜ r ≡ (a && b) ⌝ }
@@ -77,11 +79,19 @@ pub fn good_entry(i: usize, j: usize, x: f64) -> bool
     within(-CLOCK, CLOCK, x)
 }
 
-pub fn good_altitude(kind: u64, metres: f64) -> bool
-    ensures { λ r. ⌜ r ≡ domain.goodAltitude kind metres ⌝ }
+fn good_correction(correction: i32) -> bool
+    ensures { λ r. ⌜ r ≡ domain.goodCorrection correction ⌝ }
 {
+    both(-CORRECTION <= correction, correction <= CORRECTION)
+}
+
+// The metres are tested as given; by GNSS they have no correction.
+pub fn good_altitude(kind: u32, correction: i32, metres: f64) -> bool
+    ensures { λ r. ⌜ r ≡ domain.goodAltitude kind correction metres ⌝ }
+{
+    let good = within(-ALTITUDE, ALTITUDE, metres);
     if kind == 1 {
-        return within(-ALTITUDE, ALTITUDE, metres);
+        return both(good_correction(correction), good);
     }
-    both(kind == 2, within(-ALTITUDE, ALTITUDE, metres))
+    both(both(kind == 2, correction == 0), good)
 }

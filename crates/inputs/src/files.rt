@@ -2,8 +2,7 @@
 ghost use mathlib.Core.Path.{_≡_};
 ghost use Prim.Native.Nat.{_*_, _<_, _≤_};
 ghost use lib.ListN.{length};
-ghost use Rattle.words.specs.Words.{u64At, f64At};
-ghost use Rattle.inputs.specs.Inputs.{entryAt};
+ghost use Rattle.inputs.specs.Inputs.{entryAt, kindAt, correctionAt, metresAt};
 
 // The bytes of altitude.bin and of reference.bin.
 pub const ALTITUDE: usize = 16;
@@ -18,17 +17,25 @@ pub fn entry_at(clock: &[u8], n: usize, i: usize, j: usize) -> f64
     words::f64_at(clock, 8 * (i * n + j))
 }
 
-// The kind byte of altitude.bin with the seven bytes after it.
-pub fn kind_at(altitude: &[u8]) -> u64
+// The kind byte of altitude.bin with the three bytes after it.
+pub fn kind_at(altitude: &[u8]) -> u32
     requires { ⌜ length (now altitude) ≡ 16 ⌝ }
-    ensures { λ r. ⌜ r ≡ u64At (now (altitude .entry)) 0 ⌝ }
+    ensures { λ r. ⌜ r ≡ kindAt (now (altitude .entry)) ⌝ }
 {
-    words::u64_at(altitude, 0)
+    words::u32_at(altitude, 0)
+}
+
+// The correction of barometric metres, centimetres.
+pub fn correction_at(altitude: &[u8]) -> i32
+    requires { ⌜ length (now altitude) ≡ 16 ⌝ }
+    ensures { λ r. ⌜ r ≡ correctionAt (now (altitude .entry)) ⌝ }
+{
+    words::i32_at(altitude, 4)
 }
 
 pub fn metres_at(altitude: &[u8]) -> f64
     requires { ⌜ length (now altitude) ≡ 16 ⌝ }
-    ensures { λ r. ⌜ r ≡ f64At (now (altitude .entry)) 8 ⌝ }
+    ensures { λ r. ⌜ r ≡ metresAt (now (altitude .entry)) ⌝ }
 {
     words::f64_at(altitude, 8)
 }

@@ -209,7 +209,9 @@ fn check_altitude(there: bool, altitude: &[u8]) -> Check
     if !there {
         return Check::Passed;
     }
-    let good = domain::good_altitude(files::kind_at(altitude), files::metres_at(altitude));
+    let kind = files::kind_at(altitude);
+    let correction = files::correction_at(altitude);
+    let good = domain::good_altitude(kind, correction, files::metres_at(altitude));
     unless(good, Fault::BadField(200))
 }
 
@@ -303,9 +305,36 @@ fn covariance_of(clock: &[u8], n: usize) -> [f64; 1024]
     out
 }
 
+// Barometric metres with a correction in centimetres. 0 is not added: -0 metres stay -0.
+fn corrected(metres: f64, correction: i32) -> f64
+    ensures { λ r. ⌜ r ≡ inputs.corrected metres correction ⌝ }
+{
+    if correction == 0 {
+        return metres;
+    }
+    metres + correction as f64 / 100.0
+}
+
+// The altitude that is solved with.
 fn altitude_of(there: bool, altitude: &[u8]) -> Altitude
     requires { ⌜ inputs.sized 16 (inputs.given there (now altitude)) ≡ true ⌝ }
     ensures { λ r. ⌜ r ≡ inputs.altitudeOf (inputs.given there (now (altitude .entry))) ⌝ }
+{
+    if there {
+        let metres = files::metres_at(altitude);
+        if files::kind_at(altitude) == 1 {
+            let correction = files::correction_at(altitude);
+            return Altitude::Barometric(corrected(metres, correction));
+        }
+        return Altitude::Gnss(metres);
+    }
+    Altitude::None
+}
+
+// The altitude that is shown: as given.
+fn shown_of(there: bool, altitude: &[u8]) -> Altitude
+    requires { ⌜ inputs.sized 16 (inputs.given there (now altitude)) ≡ true ⌝ }
+    ensures { λ r. ⌜ r ≡ inputs.shownOf (inputs.given there (now (altitude .entry))) ⌝ }
 {
     if there {
         let metres = files::metres_at(altitude);
@@ -341,8 +370,9 @@ pub fn problem_of(
 {
     let site = metres_of(f, n);
     let clock_m2 = covariance_of(clock, n);
-    let given_altitude = altitude_of(g.altitude, altitude);
+    let solved_with = altitude_of(g.altitude, altitude);
     let reference_ps = reference_of(g.reference, reference);
+    let shown = shown_of(g.altitude, altitude);
     let time = f.time;
     let site_mm = f.site_mm;
     let z = f.z;
@@ -355,7 +385,8 @@ pub fn problem_of(
         z,
         noise_m2,
         clock_m2,
-        altitude: given_altitude,
+        altitude: solved_with,
         reference_ps,
+        shown,
     }
 }

@@ -19,7 +19,8 @@ pub enum Altitude {
 
 // Reception i's time (picoseconds), site (millimetres and metres, three coordinates each), z (metres of
 // light after the reference) and noise (square metres) stand at i; the clock covariance of i and j
-// (square metres) at i * n + j. What lies past the n receptions is zero.
+// (square metres) at i * n + j. What lies past the n receptions is zero. The solve takes `altitude`, with
+// a station's correction; the record shows `shown`, the altitude as it was given.
 pub struct Problem {
     pub n: usize,
     pub time: [i64; 32],
@@ -30,6 +31,7 @@ pub struct Problem {
     pub clock_m2: [f64; 1024],
     pub altitude: Altitude,
     pub reference_ps: i64,
+    pub shown: Altitude,
 }
 
 // How many receptions a solve needs.

@@ -23,9 +23,13 @@ altitude-of-requires c κs = whole-altitude _ (c .before .before .before .before
 reference-of-requires : tie.Need-reference-of-requires
 reference-of-requires c κs = whole-reference _ (c .before .before .before .before .before .before .pre .1)
 
+shown-of-requires : tie.Need-shown-of-requires
+shown-of-requires c κs = whole-altitude _ (c .before .before .before .before .before .before .before .pre .1)
+
 returns : tie.Need-returns
 returns c =
-    let reference = c .before .before .before .before in
+    let shown = c .before .before .before .before in
+    let reference = shown .before in
     let altitude = reference .before in
     let covariance = altitude .before in
     let metres = covariance .before in
@@ -34,6 +38,7 @@ returns c =
     is-problem (a .f) (a .n) (a .g) (a .clock .now) (a .altitude .now) (a .reference .now) (start .pre)
     (metres .metres-of .ensures) (covariance .covariance-of .ensures) (altitude .altitude-of .ensures)
     (toZ-ofZ w64 (reference .reference-of .result) (record { sfits = reference .reference-of .ok }) ∙ reference .reference-of .ensures)
+    (shown .shown-of .ensures)
 
 pub problem-of-spec : {M : Type 1} → statement M
 problem-of-spec =
@@ -43,4 +48,5 @@ problem-of-spec =
     covariance-of-requires
     altitude-of-requires
     reference-of-requires
+    shown-of-requires
     returns)
