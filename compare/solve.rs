@@ -2,6 +2,7 @@
 
 mod port_solve;
 
+use oracle::corrections;
 use oracle::damage::{self, KINDS};
 use oracle::random::Random;
 use oracle::record::{self, LENGTH, SHORT_OUTPUT};
@@ -35,7 +36,10 @@ impl Tally {
     fn turn(&mut self, seed: u64, k: u64) {
         let kind = (k % KINDS as u64) as usize;
         let mut random = Random::of_problem(seed, k);
-        let files = damage::files(&mut random, kind);
+        let mut files = damage::files(&mut random, kind);
+        if cfg!(corrected) {
+            corrections::correct(&mut random, &mut files);
+        }
         let given = files.clone();
         let (answer, record) = record::record(&files);
         self.answers[kind][answer as usize] += 1;

@@ -1,7 +1,8 @@
 //! examples OUT SOLVE: the example folders of the repository, each with its files and the original's record. Six stations about Lake Constance hear an aircraft that reports its
-//! barometric altitude; in the second folder one station is 2 km late; in the third only three stations hear it, and two places fit alike. All have the same epoch, timestamp and
+//! barometric altitude; in the second folder one station is 2 km late; in the third only three stations hear it, and two places fit alike; the
+//! fourth is the first with a station's correction of the barometric altitude. All have the same epoch, timestamp and
 //! message in their identities, so that the stations' keys alone tell the receptions apart. The crate SOLVE gets what its program is run on: the files of the second folder without the
-//! reference, so that an absent file is tried too. records.bin has the three records, one after the other.
+//! reference, so that an absent file is tried too. records.bin has the four records, one after the other.
 
 use oracle::geo::Geodetic;
 use oracle::identities::{self, Family};
@@ -46,6 +47,7 @@ fn scene(stations: &[[f64; 3]], aircraft: [f64; 3], late: &[f64]) -> Scene {
         receptions,
         clock: Some((0..n * n).map(|k| if k / n == k % n { 100.0 } else { 25.0 }).collect()),
         altitude: Some((1, 11_280.0)),
+        correction: 0,
         reference: Some(1_700_000_000_000_000),
     }
 }
@@ -71,6 +73,7 @@ fn main() {
         ("fix", 0, scene(&STATIONS, aircraft, &[0.0; 6])),
         ("outlier", 0, scene(&STATIONS, aircraft, &[0.0, 0.0, 0.0, 2_000.0, 0.0, 0.0])),
         ("ambiguous", 8, scene(&STATIONS[..3], [46.90, 9.00, 11_310.0], &[0.0; 3])),
+        ("corrected", 0, Scene { altitude: Some((1, 11_181.5)), correction: 9_850, ..scene(&STATIONS, aircraft, &[0.0; 6]) }),
     ];
     let mut records = Vec::new();
     for (name, wanted, scene) in &folders {

@@ -1,5 +1,5 @@
 //! From the bytes of the four inputs to a problem, with document 01's refusals 10, 11, 12, 13 and 15, in its order. Identities are document 02's, and their order is
-//! the one that the source derives.
+//! the one that the source derives; the altitude's correction is document 02's.
 
 use crate::obs::ObservationId;
 use crate::scene::{Files, RECEPTION, Reception, Scene};
@@ -33,9 +33,9 @@ pub fn read(files: &Files) -> Result<Scene, Refusal> {
     }
     let receptions = receptions(bytes)?;
     let clock = files.clock.as_ref().map(|bytes| clock(bytes, receptions.len())).transpose()?;
-    let altitude = files.altitude.as_ref().map(|bytes| altitude(bytes)).transpose()?;
+    let (altitude, correction) = files.altitude.as_ref().map(|bytes| altitude(bytes)).transpose()?.unzip();
     let reference = files.reference.as_ref().map(|bytes| i64::from_le_bytes(part(bytes, 0)));
-    Ok(Scene { receptions, clock, altitude, reference })
+    Ok(Scene { receptions, clock, altitude, correction: correction.unwrap_or(0), reference })
 }
 
 fn receptions(bytes: &[u8]) -> Result<Vec<Reception>, Refusal> {
@@ -94,8 +94,14 @@ fn clock(bytes: &[u8], n: usize) -> Result<Vec<f64>, Refusal> {
     Ok(entries)
 }
 
-fn altitude(bytes: &[u8]) -> Result<(u8, f64), Refusal> {
-    let (kind, metres) = (bytes[0], float(bytes, 8));
-    let sound = (kind == 1 || kind == 2) && bytes[1..8] == [0; 7] && lies(metres, -100_000.0, 100_000.0);
-    if sound { Ok((kind, metres)) } else { Err((12, 200)) }
+/// Kind and metres, and the correction: an i32 in centimetres, "within ±100,000"; "For GNSS it must be 0".
+fn altitude(bytes: &[u8]) -> Result<((u8, f64), i32), Refusal> {
+    let (kind, correction, metres) = (bytes[0], i32::from_le_bytes(part(bytes, 4)), float(bytes, 8));
+    let allowed = match kind {
+        1 => (-100_000..=100_000).contains(&correction),
+        2 => correction == 0,
+        _ => false,
+    };
+    let sound = allowed && bytes[1..4] == [0; 3] && lies(metres, -100_000.0, 100_000.0);
+    if sound { Ok(((kind, metres), correction)) } else { Err((12, 200)) }
 }

@@ -247,7 +247,7 @@ fn domain(random: &mut Random) -> Scene {
     receptions.iter_mut().zip(names).for_each(|(r, identity)| r.identity = identity);
     let mut clock: Vec<f64> = (0..n * n).map(|_| random.within(1.0) * ten_to(random.of(&[-6, 0, 6, 12]))).collect();
     (0..n).for_each(|i| clock[i * n + i] = clock[i * n + i].abs());
-    let mut scene = Scene { receptions, clock: Some(clock), altitude: None, reference: Some(random.bits() as i64) };
+    let mut scene = Scene { receptions, clock: Some(clock), altitude: None, correction: 0, reference: Some(random.bits() as i64) };
     if random.one_in(2) {
         scene.altitude = Some((1 + random.below(2) as u8, random.within(100_000.0)));
     }

@@ -16,6 +16,7 @@ pub mod modes;
 pub use at_least::AtLeast;
 mod at_least;
 
+pub mod corrections;
 pub mod damage;
 pub mod edges;
 pub mod identities;

@@ -62,7 +62,8 @@ pub fn arrays(scene: &Scene) -> Arrays {
         time[i] = r.time;
         site_mm[3 * i..3 * i + 3].copy_from_slice(&r.site_mm);
     }
-    let (kind, metres) = scene.altitude.unwrap_or((0, 0.0));
+    let kind = scene.altitude.map_or(0, |(kind, _)| kind);
+    let metres = problem.altitude.as_ref().map_or(0.0, |(_, metres, _)| *metres);
     Arrays {
         n: scene.n(),
         time,

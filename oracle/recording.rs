@@ -1,5 +1,5 @@
 //! recording OUT LIST: problems with the original's answers, for replaying (kept.rs has the form). In this order: the whole outputs that document 01 states; the edges of edges.rs;
-//! identities decided by each field; for each kind and answer the first few; rare courses of the rounds, a few of each; and the inputs whose numbers stand in LIST (seed and number of
+//! identities decided by each field; corrections of an altitude; for each kind and answer the first few; rare courses of the rounds, a few of each; and the inputs whose numbers stand in LIST (seed and number of
 //! compare/solve), which tell mutants from the original.
 
 use oracle::damage::{self, KINDS};
@@ -77,6 +77,46 @@ fn identities(recording: &mut Recording) {
     }
 }
 
+/// Five receptions of an aircraft with a barometric altitude of less than that size, and a fix.
+fn barometric(random: &mut Random, most: f64) -> Scene {
+    loop {
+        let scene = sky::sound(random, 5, true).scene;
+        if scene.altitude.is_some_and(|(kind, metres)| kind == 1 && metres.abs() < most) && record::record(&scene.files()).0 == 0 {
+            return scene;
+        }
+    }
+}
+
+/// A problem with a fix, with corrections on both sides of every end, against which its metres are changed or not; one near the ground with both zeros and the ends of
+/// the metres' domain; and the same altitudes by GNSS.
+fn corrections(recording: &mut Recording) {
+    const CORRECTIONS: [i32; 17] = [0, 1, -1, 99, 100, -350, 9_850, -12_345, 99_999, 100_000, 100_001, -99_999, -100_000, -100_001, 1 << 24, i32::MAX, i32::MIN];
+    let mut random = Random::new(SEED);
+    let (aloft, low) = (barometric(&mut random, 100_000.0), barometric(&mut random, 100.0));
+    let height = aloft.altitude.map_or(0.0, |(_, metres)| metres);
+    let beyond = f64::from_bits(100_000f64.to_bits() + 1);
+    let mut keep = |scene: &Scene, kind: u8, metres: f64, correction: i32| {
+        recording.keep(&Scene { altitude: Some((kind, metres)), correction, ..scene.clone() }.files());
+    };
+    for kind in [1, 2] {
+        for correction in CORRECTIONS {
+            keep(&aloft, kind, height, correction);
+            keep(&aloft, kind, height - f64::from(correction) / 100.0, correction);
+        }
+        for metres in [0.0, -0.0, 100_000.0, -100_000.0, beyond, -beyond] {
+            for correction in [0, 1, -1, 35, 5_000, 100_000, -100_000] {
+                keep(&low, kind, metres, correction);
+            }
+        }
+    }
+    // all of a height under 1,000 m is the correction: one that a product with 0.01 would make another number
+    let hill = barometric(&mut Random::new(SEED), 900.0);
+    let least = hill.altitude.map_or(0, |(_, metres)| (100.0 * metres) as i32);
+    let correction = (least..).find(|cm| f64::from(*cm) * 0.01 != f64::from(*cm) / 100.0).unwrap_or(0);
+    keep(&hill, 1, 0.0, correction);
+    keep(&hill, 1, -0.0, correction);
+}
+
 /// The first of each kind and answer with few receptions (or too many), and some with more.
 fn kinds(recording: &mut Recording, seed: u64, few: usize, many: usize) {
     let mut found = [[[0; 2]; 16]; KINDS];
@@ -148,6 +188,7 @@ fn main() {
     whole_outputs(&mut recording);
     edges(&mut recording);
     identities(&mut recording);
+    corrections(&mut recording);
     kinds(&mut recording, 1, 9, 1);
     courses(&mut recording, 2, 25);
     listed(&mut recording, &std::fs::read_to_string(list).expect("the list is readable"));

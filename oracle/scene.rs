@@ -1,4 +1,4 @@
-//! A problem as document 01 words it, with document 02's identities, the bytes of its four files, and the same as solve.rs takes it.
+//! A problem as document 01 words it, with document 02's identities and correction, the bytes of its four files, and the same as solve.rs takes it.
 
 use crate::clock::ModelTime;
 use crate::geo;
@@ -23,8 +23,10 @@ pub struct Scene {
     pub receptions: Vec<Reception>,
     /// n × n, row by row.
     pub clock: Option<Vec<f64>>,
-    /// Kind, 1 barometric or 2 GNSS, and metres.
+    /// Kind, 1 barometric or 2 GNSS, and metres as given.
     pub altitude: Option<(u8, f64)>,
+    /// What a station adds to barometric metres, centimetres.
+    pub correction: i32,
     pub reference: Option<i64>,
 }
 
@@ -56,7 +58,8 @@ impl Scene {
             receptions: Some(receptions),
             clock: self.clock.as_ref().map(|clock| clock.iter().flat_map(|entry| entry.to_le_bytes()).collect()),
             altitude: self.altitude.map(|(kind, metres)| {
-                let mut bytes = vec![kind, 0, 0, 0, 0, 0, 0, 0];
+                let mut bytes = vec![kind, 0, 0, 0];
+                bytes.extend(self.correction.to_le_bytes());
                 bytes.extend(metres.to_le_bytes());
                 bytes
             }),
@@ -73,11 +76,19 @@ impl Scene {
             clock_m2: self.clock.as_ref().map(|clock| (0..n).map(|i| row(clock, i)).collect()),
             reference_ps: i128::from(self.reference.unwrap_or(0)),
             altitude: self.altitude.map(|(kind, metres)| match kind {
-                1 => (Altitude { kind: AltitudeKind::Barometric, metres }, metres, BARO_SIGMA_M),
+                1 => {
+                    let metres = corrected(metres, self.correction);
+                    (Altitude { kind: AltitudeKind::Barometric, metres }, metres, BARO_SIGMA_M)
+                }
                 _ => (Altitude { kind: AltitudeKind::Gnss, metres }, metres, GNSS_SIGMA_M),
             }),
         }
     }
+}
+
+/// Document 02, item 8: "added to barometric metres by one division by 100 and one addition"; "A correction of 0 is not added at all".
+fn corrected(metres: f64, correction: i32) -> f64 {
+    if correction == 0 { metres } else { metres + f64::from(correction) / 100.0 }
 }
 
 /// "receiver 32 bytes, epoch u32, timestamp u64, message 32 bytes"

@@ -104,6 +104,7 @@ pub fn sound(random: &mut Random, n: usize, with_altitude: bool) -> Sky {
     let scene = Scene {
         clock: Some(clock(random, n, size)),
         altitude: with_altitude.then(|| altitude(random, height)),
+        correction: 0,
         reference: (!random.one_in(8)).then(|| random.bits() as i64 >> 8),
         receptions,
     };
