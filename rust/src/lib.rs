@@ -1,12 +1,13 @@
 //! The proved position solve of a multilateration network, from Rust.
 //!
 //! ```no_run
-//! use jifrosk::{Altitude, Problem, Reception, solve};
+//! use jifrosk::{Problem, Reception, Reported, solve};
 //!
 //! let mut receptions: Vec<Reception> = Vec::new();
 //! receptions.sort_by_key(|reception| reception.identity);
 //! let clock_m2 = vec![0.0; receptions.len() * receptions.len()];
-//! let problem = Problem { receptions: &receptions, clock_m2: Some(&clock_m2), altitude: Some(Altitude::Barometric(9_144.0)), reference_ps: 0 };
+//! let altitude = Reported::Barometric { metres: 9_144.0, correction_cm: -350 };
+//! let problem = Problem { receptions: &receptions, clock_m2: Some(&clock_m2), altitude: Some(altitude), reference_ps: 0 };
 //! match solve(&problem) {
 //!     Ok(fix) => println!("{:.5} {:.5} {:.0} m", fix.latitude_deg, fix.longitude_deg, fix.height_m),
 //!     Err(refusal) => println!("{refusal}"),
@@ -34,6 +35,7 @@
 //! [`Fix::to_wire`] has a position as whole numbers, as it is published, and [`Wire::position`] the way back.
 //! [`Record::to_archive`] and [`Record::from_archive`] move a record to the archive's form of 152 bytes and back.
 
+mod altitude;
 mod archive;
 mod fix;
 mod reception;
@@ -42,6 +44,7 @@ mod records;
 mod refusal;
 mod wire;
 
+pub use altitude::{Altitude, Reported};
 pub use archive::{ARCHIVED, from_archive, to_archive};
 pub use fix::Fix;
 pub use reception::{ObservationId, RECEPTION, Reception};
@@ -53,20 +56,13 @@ pub use wire::{Position, Wire, to_wire};
 /// The length of a record.
 pub const RECORD: usize = 176;
 
-/// A reported altitude, metres above the ellipsoid, within ±100,000.
-#[derive(Clone, Copy, Debug, PartialEq)]
-pub enum Altitude {
-    Barometric(f64),
-    Gnss(f64),
-}
-
 /// What is solved: at most 32 receptions.
 #[derive(Clone, Copy, Debug)]
 pub struct Problem<'a> {
     pub receptions: &'a [Reception],
     /// The covariance of the receptions' clocks, m², n × n row by row: 0 to 10^12 on the diagonal, within ±10^12 right of it; entries left of it are never read.
     pub clock_m2: Option<&'a [f64]>,
-    pub altitude: Option<Altitude>,
+    pub altitude: Option<Reported>,
     /// What z and the transmit time count from.
     pub reference_ps: i64,
 }
@@ -119,19 +115,8 @@ fn lent(files: [Option<&[u8]>; 3]) -> (u32, [&[u8]; 3]) {
 /// finite; no problem is known that has such a fix.
 pub fn solve(problem: &Problem) -> Result<Fix, Refusal> {
     let clock: Option<Vec<u8>> = problem.clock_m2.map(|entries| entries.iter().flat_map(|entry| entry.to_le_bytes()).collect());
-    let altitude = problem.altitude.map(altitude_bytes);
+    let altitude = problem.altitude.as_ref().map(Reported::to_bytes);
     let mut record = [0; RECORD];
     solve_receptions(problem.receptions, clock.as_deref(), altitude.as_ref().map(<[u8; 16]>::as_slice), Some(&problem.reference_ps.to_le_bytes()), &mut record);
     read(&record)?.fix()
-}
-
-fn altitude_bytes(altitude: Altitude) -> [u8; 16] {
-    let (kind, metres) = match altitude {
-        Altitude::Barometric(metres) => (1, metres),
-        Altitude::Gnss(metres) => (2, metres),
-    };
-    let mut bytes = [0; 16];
-    bytes[0] = kind;
-    bytes[8..].copy_from_slice(&metres.to_le_bytes());
-    bytes
 }

@@ -1,6 +1,6 @@
 //! The recorded answers of the original: through the bytes, through a list of receptions, and through `Problem` where there is one.
 
-use jifrosk::{Altitude, ObservationId, Problem, RECEPTION, RECORD, Reception, Record, read, solve, solve_bytes, solve_receptions};
+use jifrosk::{Altitude, Fix, ObservationId, Problem, RECEPTION, RECORD, Reception, Record, Reported, read, solve, solve_bytes, solve_receptions};
 use std::mem::{align_of, offset_of, size_of};
 
 const RECORDED: &str = concat!(env!("CARGO_MANIFEST_DIR"), "/../crates/replay/stdin");
@@ -92,22 +92,62 @@ fn lists_give_the_recorded_record() {
     }
 }
 
+/// What altitude.bin says, unless it is none that `Reported` has.
+fn reported(altitude: &[u8]) -> Option<Reported> {
+    if altitude.len() != 16 || altitude[1..4] != [0; 3] {
+        return None;
+    }
+    let (correction_cm, metres) = (i32::from_le_bytes(altitude[4..8].try_into().expect("four bytes")), f64::from_bits(long(altitude, 8)));
+    match (altitude[0], correction_cm) {
+        (1, _) => Some(Reported::Barometric { metres, correction_cm }),
+        (2, 0) => Some(Reported::Gnss { metres }),
+        _ => None,
+    }
+}
+
+#[test]
+fn an_altitude_is_written_as_it_was_read() {
+    let bytes = recording();
+    let mut corrected = 0;
+    for problem in recorded(&bytes) {
+        let Some(read) = reported(problem.files[2]) else { continue };
+        assert_eq!(read.to_bytes(), problem.files[2]);
+        corrected += usize::from(matches!(read, Reported::Barometric { correction_cm, .. } if correction_cm != 0));
+    }
+    assert!(corrected > 20, "{corrected} have a correction");
+}
+
+#[test]
+fn a_fix_shows_the_metres_as_given() {
+    let file = |name: &str| std::fs::read(format!("{}/../examples/fix/{name}.bin", env!("CARGO_MANIFEST_DIR"))).expect("an example file");
+    let receptions = list(&file("receptions")).expect("whole receptions");
+    let clock: Vec<f64> = file("clock").chunks(8).map(|entry| f64::from_bits(long(entry, 0))).collect();
+    let fix = |altitude: Reported| {
+        solve(&Problem { receptions: &receptions, clock_m2: Some(&clock), altitude: Some(altitude), reference_ps: 0 }).expect("a fix")
+    };
+    // 11,181.5 m and 98.50 m are 11,280 m
+    let plain = fix(Altitude::Barometric(11_280.0).into());
+    let corrected = fix(Reported::Barometric { metres: 11_181.5, correction_cm: 9_850 });
+    assert_eq!(corrected.altitude, Some(Altitude::Barometric(11_181.5)));
+    assert_eq!(Fix { altitude: plain.altitude, ..corrected }, plain);
+    assert_ne!(fix(Altitude::Barometric(11_181.5).into()).height_m, plain.height_m);
+}
+
 #[test]
 fn problems_give_the_recorded_answer() {
     let bytes = recording();
     for (k, problem) in recorded(&bytes).iter().enumerate() {
         let [receptions, clock, altitude, reference] = problem.files;
-        let whole_altitude = !problem.there[2] || altitude.len() == 16 && altitude[1..8] == [0; 7] && (1..=2).contains(&altitude[0]);
-        if clock.len() % 8 != 0 || !whole_altitude || (problem.there[3] && reference.len() != 8) {
+        let reported = reported(altitude);
+        if clock.len() % 8 != 0 || (problem.there[2] && reported.is_none()) || (problem.there[3] && reference.len() != 8) {
             continue;
         }
         let Some(receptions) = list(receptions) else { continue };
         let entries: Vec<f64> = clock.chunks(8).map(|entry| f64::from_bits(long(entry, 0))).collect();
-        let metres = || f64::from_bits(long(altitude, 8));
         let found = solve(&Problem {
             receptions: &receptions,
             clock_m2: problem.there[1].then_some(&entries),
-            altitude: problem.there[2].then(|| if altitude[0] == 1 { Altitude::Barometric(metres()) } else { Altitude::Gnss(metres()) }),
+            altitude: reported,
             reference_ps: if problem.there[3] { long(reference, 0) as i64 } else { 0 },
         });
         assert_eq!(found, read(&problem.record).and_then(Record::fix), "problem {k}");
@@ -116,7 +156,7 @@ fn problems_give_the_recorded_answer() {
 
 #[test]
 fn examples_give_their_records() {
-    for name in ["fix", "outlier", "ambiguous"] {
+    for name in ["fix", "outlier", "ambiguous", "corrected"] {
         let file = |file: &str| std::fs::read(format!("{}/../examples/{name}/{file}.bin", env!("CARGO_MANIFEST_DIR"))).expect("an example file");
         let mut out = [0; RECORD];
         solve_bytes(&file("receptions"), Some(&file("clock")), Some(&file("altitude")), Some(&file("reference")), &mut out);

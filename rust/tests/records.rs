@@ -33,7 +33,7 @@ fn solved() -> Vec<u8> {
 fn every_recorded_record_is_read_and_written_again() {
     let file = solved();
     let records = Records::new(&file).expect("whole records");
-    assert_eq!(records.len(), 2_264);
+    assert_eq!(records.len(), 2_424);
     let mut fixes = 0;
     for record in records {
         let held = read(record).expect("a record of a solve");
@@ -44,7 +44,7 @@ fn every_recorded_record_is_read_and_written_again() {
         assert_eq!(out[..RECORD], *record);
         assert_eq!(out[RECORD..], [0xa5; 3]);
     }
-    assert_eq!(fixes, 426);
+    assert_eq!(fixes, 470);
 }
 
 #[test]
