@@ -94,7 +94,11 @@ double mlat_horizontal_sigma_m(const double position[3], const double covariance
    the bytes of an absent one are not read, and further bits mean nothing. Returns the answer number: 0 for a fix, 1 to 15 for a refusal. For 14,
    where out_len is under 176, nothing is written; bytes past 176 never change. Answer and bytes are what the definition gives for every input;
    the record of a problem (none of 7 and 10 to 15) is that of the one answer of which demand 3 holds (crates/rounds/specs/Demand.antt).
-   No pointer is NULL, and out overlaps none of the inputs. */
+   No pointer is NULL, and out overlaps none of the inputs.
+   The altitude's 16 bytes are its kind, 1 barometric or 2 GNSS; three zero bytes; an int32_t, what a station adds to
+   barometric metres, in centimetres, within 100,000 either way and 0 for GNSS; and the metres, a double, within 100,000
+   either way. The solve takes metres + correction / 100, and the metres themselves where the correction is 0; the
+   record shows the metres as given. Any other altitude is MLAT_BAD_FIELD with a detail of 200. */
 uint32_t mlat_solve(const uint8_t *receptions, size_t receptions_len, const uint8_t *clock, size_t clock_len, const uint8_t *altitude,
                     size_t altitude_len, const uint8_t *reference, size_t reference_len, uint32_t present, uint8_t *out, size_t out_len);
 
