@@ -49,7 +49,7 @@ abbrev pub made : ℕ → List ℕ → Reply
 made k l = record { number = k; bytes = l }
 
 -- read back from what the code holds of it
-abbrev told : Case → Fix → Answer Fix
+abbrev pub told : Case → Fix → Answer Fix
 told case.Fix x = fix x
 told (case.Refused why) x = refused why
 told case.NoFixedPoint x = noFixedPoint
@@ -59,9 +59,12 @@ told-as (fix x) = refl
 told-as (refused why) = refl
 told-as noFixedPoint = refl
 
+pub answer-is : (h : code.Answer) (a : Answer Fix) → h ≡ asAnswer a → (k : Case) → h .case ≡ k → told k (h .fix) ≡ a
+answer-is h a A k e = ap (λ (c : Case). told c (h .fix)) (sym e) ∙ ap (λ (x : code.Answer). told (x .case) (x .fix)) A ∙ told-as a
+
 module _ (n : ℕ) (altitude : Altitude) (h : code.Answer) (a : Answer Fix) (A : h ≡ asAnswer a) where
   told-by : (k : Case) → h .case ≡ k → answered n altitude (told k (h .fix)) ≡ answered n altitude a
-  told-by k e = ap (answered n altitude) (ap (λ (c : Case). told c (h .fix)) (sym e) ∙ ap (λ (x : code.Answer). told (x .case) (x .fix)) A ∙ told-as a)
+  told-by k e = ap (answered n altitude) (answer-is h a A k e)
 
   pub fix-reply : (b : List ℕ) → h .case ≡ case.Fix → b ≡ shown.fix n altitude (h .fix) → made 0 b ≡ answered n altitude a
   fix-reply b e f = ap (made 0) f ∙ told-by case.Fix e

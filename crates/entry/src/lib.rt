@@ -34,7 +34,7 @@ pub struct Reply {
 }
 
 // Which inputs there are: bit 0 clock, bit 1 altitude, bit 2 reference.
-fn given(present: u32) -> Given
+pub fn given(present: u32) -> Given
     ensures { λ r. ⌜ r ≡ reply.given present ⌝ }
 {
     Given {
@@ -45,7 +45,7 @@ fn given(present: u32) -> Given
 }
 
 // Document 01's number and detail of a refusal by the solve.
-fn number_of(why: Refusal) -> u32
+pub fn number_of(why: Refusal) -> u32
     ensures { λ r. ⌜ r ≡ refusalNumber why ⌝ }
 {
     match why {
@@ -59,7 +59,7 @@ fn number_of(why: Refusal) -> u32
     }
 }
 
-fn detail_of(why: Refusal) -> u32
+pub fn detail_of(why: Refusal) -> u32
     ensures { λ r. ⌜ r ≡ refusalDetail why ⌝ }
 {
     match why {

@@ -1,5 +1,5 @@
 // What is open to callers, under its C names: a module a subject, as in include/mlat_solver.h (numbers, geodesy, claims, solve,
-// records, positions, archives).
+// states, records, positions, archives).
 // Each function takes every value and demands nothing. An array of fixed length that is lent as `&mut` is written
 // whole, or stays as it was where the call is refused.
 mod archives;
@@ -9,6 +9,7 @@ mod numbers;
 mod positions;
 mod records;
 mod solve;
+mod states;
 
 pub use archives::mlat_from_archive;
 pub use archives::mlat_to_archive;
@@ -34,3 +35,4 @@ pub use records::mlat_record_at;
 pub use records::mlat_write_record;
 pub use solve::mlat_solve;
 pub use solve::mlat_solve_receptions;
+pub use states::mlat_why;

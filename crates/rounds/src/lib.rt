@@ -10,6 +10,7 @@ mod settled;
 pub use answer::Answer;
 pub use answer::Case;
 pub use answer::Refusal;
+pub use outliers::residuals;
 ghost use mathlib.Core.Path.{_≡_};
 ghost use mathlib.Core.Bool.{Bool, true, false};
 ghost use Prim.Native.Nat.{ℕ, _≤_, _<_, _^_};
