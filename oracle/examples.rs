@@ -1,8 +1,9 @@
-//! examples OUT SOLVE: the example folders of the repository, each with its files and the original's record. Six stations about Lake Constance hear an aircraft that reports its
+//! examples OUT SOLVE WHY: the example folders of the repository, each with its files and the original's record. Six stations about Lake Constance hear an aircraft that reports its
 //! barometric altitude; in the second folder one station is 2 km late; in the third only three stations hear it, and two places fit alike; the
-//! fourth is the first with a station's correction of the barometric altitude. All have the same epoch, timestamp and
+//! fourth is the first with a station's correction of the barometric altitude; in the fifth one station is 800 m late and another has heard a transmission 5 ms later,
+//! which no pair with it allows. All have the same epoch, timestamp and
 //! message in their identities, so that the stations' keys alone tell the receptions apart. The crate SOLVE gets what its program is run on: the files of the second folder without the
-//! reference, so that an absent file is tried too. records.bin has the four records, one after the other.
+//! reference, so that an absent file is tried too. The crate WHY gets those of the fifth. records.bin has the first four records, one after the other.
 
 use oracle::geo::Geodetic;
 use oracle::identities::{self, Family};
@@ -11,6 +12,7 @@ use oracle::random::Random;
 use oracle::record;
 use oracle::scene::{Files, Scene};
 use oracle::sky;
+use oracle::why;
 
 /// Latitude, longitude and height of each station.
 const STATIONS: [[f64; 3]; 6] = [
@@ -65,15 +67,18 @@ fn write(folder: &str, files: &Files) {
 
 fn main() {
     let words: Vec<String> = std::env::args().skip(1).collect();
-    let [out, solve] = words.as_slice() else {
-        panic!("examples OUT SOLVE");
+    let [out, solve, told] = words.as_slice() else {
+        panic!("examples OUT SOLVE WHY");
     };
     let aircraft = [47.58, 9.32, 11_310.0];
+    let mut screened = scene(&STATIONS, aircraft, &[0.0, 800.0, 0.0, 0.0, 0.0, 0.0]);
+    screened.receptions[4].time += 5_000_000_000;
     let folders = [
         ("fix", 0, scene(&STATIONS, aircraft, &[0.0; 6])),
         ("outlier", 0, scene(&STATIONS, aircraft, &[0.0, 0.0, 0.0, 2_000.0, 0.0, 0.0])),
         ("ambiguous", 8, scene(&STATIONS[..3], [46.90, 9.00, 11_310.0], &[0.0; 3])),
         ("corrected", 0, Scene { altitude: Some((1, 11_181.5)), correction: 9_850, ..scene(&STATIONS, aircraft, &[0.0; 6]) }),
+        ("screened", 0, screened),
     ];
     let mut records = Vec::new();
     for (name, wanted, scene) in &folders {
@@ -87,8 +92,16 @@ fn main() {
         let mask = u32::from_le_bytes([record[12], record[13], record[14], record[15]]);
         println!("{folder}: answer {answer}, used {mask:08x}");
     }
+    records.truncate(4 * record::LENGTH);
     std::fs::write(format!("{out}/records.bin"), records).expect("a file");
     let files = Files { reference: None, ..folders[1].2.files() };
     write(&format!("{solve}/data"), &files);
     std::fs::write(format!("{solve}/stdout"), record::record(&files).1).expect("a file");
+
+    let files = folders[4].2.files();
+    write(&format!("{told}/data"), &files);
+    let (mut states, mut detail) = ([0; why::LEAST], 0);
+    let number = why::why(&files, &mut states, &mut detail);
+    std::fs::write(format!("{told}/stdout"), [&number.to_le_bytes()[..], &detail.to_le_bytes(), &states].concat()).expect("a file");
+    why::told(&files).states.iter().for_each(|state| println!("{state:?}"));
 }

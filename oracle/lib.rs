@@ -30,3 +30,4 @@ pub mod scene;
 pub mod sky;
 pub mod trace;
 mod tune;
+pub mod why;
