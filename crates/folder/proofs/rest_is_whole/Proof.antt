@@ -1,9 +1,9 @@
--- `solve::rest_is_whole` ends: its turns are counted down. What is over is less than a reception, so it can be added to. Assumes nothing.
+-- `folder::rest_is_whole` ends: its turns are counted down. What is over is less than a reception, so it can be added to. Assumes nothing.
 use borrow.Author.Needs.{needs}
 use Prim.Native.Nat.{_<_}
 use native.Mathlib.Omega.{arith}
-use Rattle.solve.proofs.rest_is_whole.Statement.{statement}
-use Rattle.solve.proofs.rest_is_whole.Tie as tie
+use Rattle.folder.proofs.rest_is_whole.Statement.{statement}
+use Rattle.folder.proofs.rest_is_whole.Tie as tie
 
 abbrev Inv-loop : tie.InvT-loop
 Inv-loop fd turns₀ over₀ turns over = over < 132

@@ -1,12 +1,12 @@
--- `solve::read_receptions` meets its contract: as many as were read, or one fewer, are within the buffer. Assumes nothing.
+-- `folder::read_receptions` meets its contract: as many as were read, or one fewer, are within the buffer. Assumes nothing.
 use borrow.Author.Needs.{needs}
 use Prim.Native.Nat.{_≤_}
 use mathlib.Core.Path.{sym}
 use native.Mathlib.Omega.{arith}
 use lib.ListN.{length}
 use lib.Seq.{length-take-le}
-use Rattle.solve.proofs.read_receptions.Statement.{statement}
-use Rattle.solve.proofs.read_receptions.Tie as tie
+use Rattle.folder.proofs.read_receptions.Statement.{statement}
+use Rattle.folder.proofs.read_receptions.Tie as tie
 
 slice-aggregate-opened : tie.Need-slice-aggregate-opened
 slice-aggregate-opened c = search needs
