@@ -126,6 +126,22 @@ uint32_t mlat_solve_receptions(const struct mlat_reception *receptions, size_t r
                                const uint8_t *altitude, size_t altitude_len, const uint8_t *reference, size_t reference_len, uint32_t present,
                                uint8_t *out, size_t out_len);
 
+/* ---- states: why a receiver is missing from a fix */
+
+/* Solves the problem of the same inputs as mlat_solve does, and writes into states, for each reception of a solved
+   problem, in input order, 20 bytes, little-endian: u32 state (1 used, 2 removed by the screen, 3 left out), u32 turn of
+   the removal, from 1, u32 clash count in that turn, f64 normalised residual, zero bytes where a state has none. Used are
+   the receptions of the record's mask, with a residual of at most 5 at its ECEF and T; left out are those that the screen
+   keeps and the fix does not use, with one above 5. Exactly one state holds of each reception, by the solve's own
+   definitions, and that one is given (crates/why/specs/Meaning.antt).
+   Returns the answer number of mlat_solve on the same inputs. MLAT_SHORT_OUTPUT where states_len is under 640, before
+   anything else is looked at: then *detail stays. For every other answer *detail gets bytes 4 to 7 of the record that
+   mlat_solve writes: the degrees of freedom of a fix, a refusal's detail. A refusal leaves states as it was, and the bytes
+   past the last state never change. No pointer is NULL, and states and detail overlap none of the inputs. */
+uint32_t mlat_why(const uint8_t *receptions, size_t receptions_len, const uint8_t *clock, size_t clock_len, const uint8_t *altitude,
+                  size_t altitude_len, const uint8_t *reference, size_t reference_len, uint32_t present, uint8_t *states,
+                  size_t states_len, uint32_t *detail);
+
 /* ---- records: fix records read back */
 
 /* Where the record at a place of a file, counted from 0, begins: *at becomes 176 * place, an offset into the caller's

@@ -42,6 +42,7 @@ mod reception;
 mod record;
 mod records;
 mod refusal;
+mod why;
 mod wire;
 
 pub use altitude::{Altitude, Reported};
@@ -51,6 +52,7 @@ pub use reception::{ObservationId, RECEPTION, Reception};
 pub use record::{Record, read, write};
 pub use records::{Iter, Records};
 pub use refusal::{Field, Refusal};
+pub use why::{STATE, STATES, State, why, why_bytes};
 pub use wire::{Position, Wire, to_wire};
 
 /// The length of a record.
