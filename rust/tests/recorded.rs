@@ -156,7 +156,7 @@ fn problems_give_the_recorded_answer() {
 
 #[test]
 fn examples_give_their_records() {
-    for name in ["fix", "outlier", "ambiguous", "corrected"] {
+    for name in ["fix", "outlier", "ambiguous", "corrected", "screened"] {
         let file = |file: &str| std::fs::read(format!("{}/../examples/{name}/{file}.bin", env!("CARGO_MANIFEST_DIR"))).expect("an example file");
         let mut out = [0; RECORD];
         solve_bytes(&file("receptions"), Some(&file("clock")), Some(&file("altitude")), Some(&file("reference")), &mut out);
