@@ -1,0 +1,140 @@
+// Replays recorded inputs of an independent reading of document 02, item 9: standard input holds them one after the
+// other, in the form that RECORDING.md beside this program states. Prints how many were compared and how many differ, in
+// the answer, the detail or any of the 640 bytes lent; and how many were compared with a falsified answer, and how many of
+// those differ, which is to be all: input k has a byte of its answer changed where k is even, and of its states elsewhere.
+use cases::Tally;
+use libc::STDOUT_FILENO;
+
+// A length of two bytes, the lower one first.
+fn size(low: u8, high: u8) -> usize {
+    low as usize + high as usize * 256
+}
+
+// Whether an answer and the lent bytes are these.
+fn alike(
+    answer: &[u8; 8],
+    states: &[u8; 640],
+    recorded: &[u8; 8],
+    recorded_states: &[u8; 640],
+) -> bool {
+    check::same(answer, recorded) && check::same(states, recorded_states)
+}
+
+// The answer number and the detail of input k: with one byte changed where k is even.
+fn falsified_answer(recorded: &[u8; 8], k: u64) -> [u8; 8] {
+    let mut other = *recorded;
+    let place = (k / 2 % 8) as usize;
+    if k % 2 == 0 {
+        other[place] = other[place] ^ 1;
+    }
+    other
+}
+
+// The lent bytes of input k: with one changed where k is odd.
+fn falsified_states(recorded: &[u8; 640], k: u64) -> [u8; 640] {
+    let mut other = *recorded;
+    let place = (k / 2 % 640) as usize;
+    if k % 2 == 1 {
+        other[place] = other[place] ^ 1;
+    }
+    other
+}
+
+// Whether an input's answer is the recorded one, and whether it is the falsified one.
+struct Compared {
+    same: bool,
+    same_falsified: bool,
+}
+
+// The answer number and the detail of these files, one after the other, and the lent bytes.
+fn told(
+    receptions: &[u8],
+    clock: &[u8],
+    altitude: &[u8],
+    reference: &[u8],
+    present: u8,
+    answer: &mut [u8; 8],
+    states: &mut [u8; 640],
+) {
+    let mut detail = 0u32;
+    let number = mlat_solver::mlat_why(
+        receptions,
+        clock,
+        altitude,
+        reference,
+        present as u32,
+        states,
+        &mut detail,
+    );
+    words::put_u32(answer, 0, number);
+    words::put_u32(answer, 4, detail);
+}
+
+// The next input, which is input k. Its first eight bytes are read already. An answer that ends early differs. Before
+// the call the lent bytes are A5.
+fn tried(head: &[u8; 8], k: u64) -> Compared {
+    let mut receptions = [0u8; 16384];
+    let mut clock = [0u8; 16384];
+    let mut altitude = [0u8; 256];
+    let mut reference = [0u8; 256];
+    let mut recorded = [0u8; 8];
+    let mut recorded_states = [0u8; 640];
+    let mut answer = [0u8; 8];
+    let mut states = [0xa5u8; 640];
+    let r = cases::read(&mut receptions, size(head[0], head[1]));
+    let c = cases::read(&mut clock, size(head[2], head[3]));
+    let a = cases::read(&mut altitude, size(head[4], 0));
+    let f = cases::read(&mut reference, size(head[5], 0));
+    let began = cases::read(&mut recorded, 8) == 8;
+    let whole = cases::read(&mut recorded_states, 640) == 640;
+    told(
+        &receptions[..r],
+        &clock[..c],
+        &altitude[..a],
+        &reference[..f],
+        head[6],
+        &mut answer,
+        &mut states,
+    );
+    let other = falsified_answer(&recorded, k);
+    let other_states = falsified_states(&recorded_states, k);
+    let same = alike(&answer, &states, &recorded, &recorded_states);
+    Compared {
+        same: began && whole && same,
+        same_falsified: alike(&answer, &states, &other, &other_states),
+    }
+}
+
+// The next input's first eight bytes, and whether there are any.
+fn next(head: &mut [u8; 8]) -> bool {
+    cases::read(head, 8) == 8
+}
+
+fn print(tally: Tally, falsified: Tally) {
+    io::print_decimal(STDOUT_FILENO, tally.compared);
+    io::write_all(STDOUT_FILENO, b" compared, ");
+    io::print_decimal(STDOUT_FILENO, tally.differ);
+    io::write_all(STDOUT_FILENO, b" differ; ");
+    io::print_decimal(STDOUT_FILENO, falsified.compared);
+    io::write_all(STDOUT_FILENO, b" falsified, ");
+    io::print_decimal(STDOUT_FILENO, falsified.differ);
+    io::write_all(STDOUT_FILENO, b" differ\n");
+}
+
+fn main() {
+    let mut head = [0u8; 8];
+    let mut tally = Tally {
+        compared: 0,
+        differ: 0,
+    };
+    let mut falsified = Tally {
+        compared: 0,
+        differ: 0,
+    };
+    while tally.compared < cases::MOST && falsified.compared < cases::MOST && next(&mut head) {
+        let found = tried(&head, tally.compared);
+        tally = tally.with(found.same);
+        falsified = falsified.with(found.same_falsified);
+    }
+    print(tally, falsified);
+}
