@@ -29,7 +29,7 @@ module _ {Q F X : Type 0} (P : Setting Q F X) where
   closed-refused e (fails t) h = (t, refl, cc)
   closed-refused e (gives y) h = absurd (let z : _≡_ {A = ℕ} 0 1 = cc in omega arith)
 
-  closed-never : (o : Outcome Unpublished X) → closed o ≡ noFixedPoint → ⊥
+  pub closed-never : (o : Outcome Unpublished X) → closed o ≡ noFixedPoint → ⊥
   closed-never (fails e) h = let z : _≡_ {A = ℕ} 0 1 = cc in omega arith
   closed-never (gives y) h = let z : _≡_ {A = ℕ} 0 1 = cc in omega arith
 

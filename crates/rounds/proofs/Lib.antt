@@ -17,3 +17,6 @@ pub mod Runs
 pub mod Found
 pub mod Mirrors
 pub mod Shown
+pub mod Capped
+pub mod Members
+pub mod Unread

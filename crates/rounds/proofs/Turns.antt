@@ -62,4 +62,4 @@ module _ (R : Receptions) (bad : ℕ → ℕ → Bool) (reference : ℤ) (N : R 
         → (t : Turn) → stepOf t (b .fit) ≡ decided (has K) (has mask) (nth z) (R .n) (b .fit) → stepOf t (b .fit) ≡ round P (has mask) p
     round-fitted e K k z Z t u =
         let f : Fit = b .fit in
-        u ∙ ap (λ (A : Subset). decided A (has mask) (nth z) (R .n) f) k ∙ decided-same (kept P) (has mask) (nth z) (P .residual f) (R .n) f Z ∙ enough h (gives f) (met true e)
+        u ∙ ap (λ (A : Subset). decided A (has mask) (nth z) (R .n) f) k ∙ decided-same (kept P) (has mask) (nth z) (P .residual f) (R .n) f (λ j l s. Z j l) ∙ enough h (gives f) (met true e)

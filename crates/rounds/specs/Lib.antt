@@ -5,3 +5,4 @@ pub mod Looked
 pub mod Solve
 pub mod Demand
 pub mod Mirrored
+pub mod Unmoved
