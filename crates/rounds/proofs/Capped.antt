@@ -2,14 +2,10 @@
 -- rounds after it are never begun, so that a larger cap changes nothing. Assumes nothing.
 use mathlib.Core.Path.{_≡_, refl, sym, _∙_}
 use mathlib.Core.Logic.{_≢_}
-use mathlib.Core.List.{List}
 use mathlib.Core.Option.{none}
 use Prim.Native.Nat.{ℕ, suc, _+_, _*_, _-_, _≤_}
 use native.Mathlib.Omega.{arith}
-use lib.Ieee.{Float}
 use Rattle.problem.specs.declared.Problem.{Problem}
-use Rattle.damped.specs.declared.Fit.{Fit}
-use Rattle.record.specs.declared.content.Fix.{Fix}
 use Rattle.rounds.specs.Setting.{Answer, noFixedPoint, Setting, kept, survivors}
 use Rattle.rounds.specs.Rounds.{roundsTo, solved}
 use Rattle.rounds.specs.Demand.{rounds}
@@ -41,11 +37,14 @@ module _ {Q F X : Type 0} (P : Setting Q F X) where
   ran : (cap : ℕ) → Run P cap (kept P) none (capped P cap)
   ran cap = run P cap (kept P) none (all-kept P)
 
+  same : (cap larger : ℕ) → cap ≤ larger → capped P cap ≢ noFixedPoint → capped P larger ≡ capped P cap
+  same cap larger l h = same-later cap larger l (capped P cap) h (ran cap)
+
 pub cap-reached : CapReached
 cap-reached Q F X P cap = ((λ h. each-changed P cap (capped P cap) h (ran P cap)), λ h. unchanged P cap h)
 
 pub same-at-larger : SameAtLarger
-same-at-larger Q F X P cap larger l h = same-later P cap larger l (capped P cap) h (ran P cap)
+same-at-larger Q F X P cap larger l h = same P cap larger l h
 
 -- ---- of the solve
 of-solve : (P : Problem) → solveProblem P ≡ capped (rounds P) (2 * survivors (rounds P) + 2)
@@ -57,6 +56,6 @@ caps-of-solve P =
     let most : ℕ = 2 * survivors (rounds P) + 2 in
     record {
       answer = of-solve P;
-      larger = λ cap l h. same-at-larger (List Float) Fit Fix (rounds P) most cap l (λ e. h (of-solve P ∙ e)) ∙ sym (of-solve P);
-      smaller = λ cap l h. sym (of-solve P ∙ same-at-larger (List Float) Fit Fix (rounds P) cap most l h);
+      larger = λ cap l h. same (rounds P) most cap l (λ e. h (of-solve P ∙ e)) ∙ sym (of-solve P);
+      smaller = λ cap l h. sym (of-solve P ∙ same (rounds P) cap most l h);
     }

@@ -39,7 +39,7 @@ ascending S index (suc i) a b l h m = go (S i) refl (λ u. ascending S index i a
         → getD (set known (count S i) i) a 0 < getD (set known (count S i) i) b 0
     add (inl e) f =
         let last : getD (set known (count S i) i) b 0 ≡ i =
-            rw e (getD-set-same known (count S i) i 0 (omega (arith, count-le S i, members-length S index i))) in
+        rw e (getD-set-same known (count S i) i 0 (omega (arith, count-le S i, members-length S index i))) in
         let below = lists S index i a (omega arith) (omega arith) .below in
         rw (last, kept-at a (omega arith)) below
     add (inr u) f = rw (kept-at a (omega arith), kept-at b u) (f u)
