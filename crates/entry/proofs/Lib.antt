@@ -5,3 +5,4 @@ pub mod Cut
 pub mod Outputs
 pub mod Records
 pub mod Correction
+pub mod Unmoved

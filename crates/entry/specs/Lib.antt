@@ -2,3 +2,4 @@ pub mod Reply
 pub mod Cut
 pub mod Outputs
 pub mod Correction
+pub mod Unmoved

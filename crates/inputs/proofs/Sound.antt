@@ -91,7 +91,7 @@ entry-good clock n i j e h l =
     let d : i + (j - i) ≡ j = omega arith in
     rw d at (row-good clock n i (n - i) (j - i) (good-of _ (BadField (100 + i)) (first-of (checkRow clock n) n i e (omega arith))) (omega arith))
 
-upper : (clock : List ℕ) (n i j : ℕ) → i ≤ j → j < n → upperAt clock n (i * n + j) ≡ entryAt clock n i j
+pub upper : (clock : List ℕ) (n i j : ℕ) → i ≤ j → j < n → upperAt clock n (i * n + j) ≡ entryAt clock n i j
 unfolding upperAt
 upper clock n i j h l = rw (digits-div i l, digits-mod i l, le-leb i j h)
 
