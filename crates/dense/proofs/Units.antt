@@ -11,7 +11,8 @@ use Rattle.binary64.specs.Steps.{nought, one}
 abbrev pub unit : ℕ → ℕ → List Float
 unit n column = set (replicate n nought) column one
 
-take-zeros : (n m : ℕ) → n ≤ m → take n (replicate m nought) ≡ replicate n nought
+-- of m zeros the first n are n zeros
+pub take-zeros : (n m : ℕ) → n ≤ m → take n (replicate m nought) ≡ replicate n nought
 take-zeros n m h =
     let e : n + (m - n) ≡ m = omega arith in
     rw (← e, ← replicate-append-replicate n (m - n) nought) (take-at (replicate n nought) (replicate (m - n) nought) n (length-replicate n nought))

@@ -2,4 +2,9 @@ pub mod Entries
 pub mod Factor
 pub mod Solve
 pub mod Inverse
+pub mod Mirrored
+pub mod Triangular
+pub mod Sandwich
+pub mod Rows
 pub mod Symmetry
+pub mod Lower

@@ -1,5 +1,13 @@
 // The steps of linalg.rs on lent arrays of any length, with the size n beside them: one proof serves
 // the arrays of `Matrix` and `Cholesky` and the short ones of a fit. What lies past the n rows stays.
+mod rows;
+mod sandwiched;
+mod triangular;
+
+pub use rows::forward_rows;
+pub use sandwiched::sandwich;
+pub use triangular::inverse_diagonal;
+pub use triangular::inverse_triangular;
 ghost use mathlib.Core.Path.{_≡_};
 ghost use Prim.Native.Nat.{ℕ, _+_, _*_, _-_, _<_, _≤_};
 ghost use lib.ListN.{length};
@@ -24,15 +32,25 @@ pub fn put(m: &mut [f64], n: usize, row: usize, column: usize, value: f64)
     m[row * n + column] = value;
 }
 
-// v less a[p + k * s] * b[q + k], for k from 0 below m.
-fn minus_dots(a: &[f64], p: usize, s: usize, b: &[f64], q: usize, m: usize, v: f64) -> f64
+// A value, into a row and a column, and into the mirrored place.
+fn put_both(m: &mut [f64], n: usize, row: usize, column: usize, value: f64)
+    requires { ⌜ (row < n) × (column < n) × (n * n ≤ length (now m)) ⌝ }
+    ensures { λ _. ⌜ now (m .exit) ≡ put (put (now (m .entry)) n row column value) n column row value ⌝ }
+{
+    put(&mut *m, n, row, column, value);
+    put(&mut *m, n, column, row, value);
+}
+
+// v less a[p + k * s] * b[q + k * t], for k from 0 below m.
+fn minus_dots(a: &[f64], p: usize, s: usize, b: &[f64], q: usize, t: usize, m: usize, v: f64) -> f64
     requires { ⌜ ((k : ℕ) → k < m → p + k * s < length (now a)) ⌝ }
-    requires { ⌜ ((k : ℕ) → k < m → q + k < length (now b)) ⌝ }
-    ensures { λ r. ⌜ r ≡ minusDots (λ k. nth (now (a .entry)) (p + k * s)) (λ k. nth (now (b .entry)) (q + k)) m v ⌝ }
+    requires { ⌜ ((k : ℕ) → k < m → q + k * t < length (now b)) ⌝ }
+    ensures { λ r. ⌜ r
+        ≡ minusDots (λ k. nth (now (a .entry)) (p + k * s)) (λ k. nth (now (b .entry)) (q + k * t)) m v ⌝ }
 {
     let mut value = v;
     for k in 0..m {
-        value = value - a[p + k * s] * b[q + k];
+        value = value - a[p + k * s] * b[q + k * t];
     }
     value
 }
@@ -44,7 +62,7 @@ fn column(a: &[f64], n: usize, j: usize, root: f64, l: &mut [f64])
 {
     for i in j + 1..n {
         let known = &*l;
-        let value = minus_dots(known, i * n, 1, known, j * n, j, at(a, n, i, j));
+        let value = minus_dots(known, i * n, 1, known, j * n, 1, j, at(a, n, i, j));
         put(&mut *l, n, i, j, value / root);
     }
 }
@@ -57,7 +75,7 @@ pub fn cholesky(a: &[f64], n: usize, l: &mut [f64]) -> bool
 {
     for j in 0..n {
         let known = &*l;
-        let diagonal = minus_dots(known, j * n, 1, known, j * n, j, at(a, n, j, j));
+        let diagonal = minus_dots(known, j * n, 1, known, j * n, 1, j, at(a, n, j, j));
         // false of a not-a-number too
         if 0.0 < diagonal {
             let root = binary64::sqrt(diagonal);
@@ -70,15 +88,15 @@ pub fn cholesky(a: &[f64], n: usize, l: &mut [f64]) -> bool
     true
 }
 
-// The sum of a[p + k] * b[k], for k from 0 below m.
-fn dots(a: &[f64], p: usize, b: &[f64], m: usize) -> f64
-    requires { ⌜ ((k : ℕ) → k < m → p + k < length (now a)) ⌝ }
-    requires { ⌜ m ≤ length (now b) ⌝ }
-    ensures { λ r. ⌜ r ≡ dots (λ k. nth (now (a .entry)) (p + k)) (nth (now (b .entry))) m ⌝ }
+// The sum of a[p + k * s] * b[q + k * t], for k from 0 below m.
+fn dots(a: &[f64], p: usize, s: usize, b: &[f64], q: usize, t: usize, m: usize) -> f64
+    requires { ⌜ ((k : ℕ) → k < m → p + k * s < length (now a)) ⌝ }
+    requires { ⌜ ((k : ℕ) → k < m → q + k * t < length (now b)) ⌝ }
+    ensures { λ r. ⌜ r ≡ dots (λ k. nth (now (a .entry)) (p + k * s)) (λ k. nth (now (b .entry)) (q + k * t)) m ⌝ }
 {
     let mut sum = 0.0;
     for k in 0..m {
-        sum = sum + a[p + k] * b[k];
+        sum = sum + a[p + k * s] * b[q + k * t];
     }
     sum
 }
@@ -89,7 +107,7 @@ pub fn mul_vec(a: &[f64], n: usize, v: &[f64], y: &mut [f64])
     ensures { λ _. ⌜ now (y .exit) ≡ mulVec (now (a .entry)) n (now (v .entry)) (now (y .entry)) ⌝ }
 {
     for row in 0..n {
-        y[row] = dots(a, row * n, v, n);
+        y[row] = dots(a, row * n, 1, v, 0, 1, n);
     }
 }
 
@@ -109,7 +127,7 @@ pub fn forward(l: &[f64], n: usize, y: &mut [f64])
 {
     for i in 0..n {
         let b = y[i];
-        let value = minus_dots(l, i * n, 1, &*y, 0, i, b);
+        let value = minus_dots(l, i * n, 1, &*y, 0, 1, i, b);
         y[i] = value / at(l, n, i, i);
     }
 }
@@ -122,7 +140,7 @@ pub fn backward(l: &[f64], n: usize, x: &mut [f64])
     for m in 0..n {
         let i = n - 1 - m;
         let y = x[i];
-        let value = minus_dots(l, (i + 1) * n + i, n, &*x, i + 1, m, y);
+        let value = minus_dots(l, (i + 1) * n + i, n, &*x, i + 1, 1, m, y);
         x[i] = value / at(l, n, i, i);
     }
 }

@@ -1,6 +1,8 @@
--- `dense::backward` meets its contract. The invariant: x holds the solution in its last m rows of n and y in the others (`backward-keeps`), and keeps its length. The measure is what is left of n. Assumes nothing.
+-- `dense::backward` meets its contract. The invariant: x holds the solution in its last m rows of n and y in the others
+-- (`backward-keeps`), and keeps its length. The measure is what is left of n. Assumes nothing.
 use mathlib.Core.Path.{_≡_, refl, sym}
 use Prim.Native.Nat.{suc, _≤_, _+_, _-_}
+use native.Mathlib.Nat.{mul-one}
 use native.Mathlib.Numerals.{add-one}
 use native.Mathlib.Omega.{arith}
 use lib.ListN.{length, length-set}
@@ -38,10 +40,14 @@ add-minus-dots : tie.Need-add-minus-dots Inv-loop μ-loop
 add-minus-dots c = omega arith
 
 mul-minus-dots : tie.Need-mul-minus-dots Inv-loop μ-loop
-mul-minus-dots c = omega (arith, start (c .before .before .before .before .before .args .n - 1 - c .before .before .loop .m + 1) (c .before .before .before .before .before .args .n) (omega arith))
+mul-minus-dots c =
+    let n = c .before .before .before .before .before .args .n in
+    omega (arith, start (n - 1 - c .before .before .loop .m + 1) n (omega arith))
 
 add-minus-dots-2 : tie.Need-add-minus-dots-2 Inv-loop μ-loop
-add-minus-dots-2 c = omega (arith, start (c .before .before .before .before .before .args .n - 1 - c .before .before .loop .m + 1) (c .before .before .before .before .before .args .n) (omega arith))
+add-minus-dots-2 c =
+    let n = c .before .before .before .before .before .args .n in
+    omega (arith, start (n - 1 - c .before .before .loop .m + 1) n (omega arith))
 
 add-minus-dots-3 : tie.Need-add-minus-dots-3 Inv-loop μ-loop
 add-minus-dots-3 c = omega arith
@@ -80,7 +86,7 @@ loop-again c =
     let kept : nth y i ≡ nth (loop .x) i = rw (loop .inv .2) (sym (backward-keeps _ n y (loop .m) i (omega arith) (omega arith))) in (
       omega arith,
       simp length-set (loop .inv .1),
-      rw (add-one (loop .m), row, ← loop .inv .2, c .at .ensures, c .before .minus-dots .ensures, kept) (simp (down (i + 1) i n)),
+      rw (add-one (loop .m), row, ← loop .inv .2, c .at .ensures, c .before .minus-dots .ensures, kept) (simp (mul-one, down (i + 1) i n)),
     )
 
 same-length : tie.Need-same-length Inv-loop μ-loop

@@ -1,6 +1,8 @@
--- `dense::mul_vec` meets its contract. The invariant: y holds the product in its rows below `row`, and keeps its length. The measure is what is left of n. Assumes nothing.
+-- `dense::mul_vec` meets its contract. The invariant: y holds the product in its rows below `row`, and keeps its length. The
+-- measure is what is left of n. Assumes nothing.
 use mathlib.Core.Path.{_≡_, refl}
 use Prim.Native.Nat.{_≤_, _-_}
+use native.Mathlib.Nat.{mul-one, zero-add}
 use native.Mathlib.Numerals.{add-one}
 use native.Mathlib.Omega.{arith}
 use lib.ListN.{length, length-set}
@@ -23,7 +25,9 @@ mul-dots : tie.Need-mul-dots Inv-loop μ-loop
 mul-dots c = omega (arith, start (c .before .loop .row) (c .before .before .before .before .before .args .n) (omega arith))
 
 dots-requires : tie.Need-dots-requires Inv-loop μ-loop
-dots-requires c κs = ((λ k h. omega (arith, place (c .before .loop .row) k (c .before .before .before .before .before .args .n) (omega arith) h)), omega arith)
+dots-requires c κs =
+    let n = c .before .before .before .before .before .args .n in
+    ((λ k h. omega (arith, place (c .before .loop .row) k n (omega arith) h)), omega arith)
 
 mul-y : tie.Need-mul-y Inv-loop μ-loop
 mul-y c = omega arith
@@ -41,7 +45,7 @@ loop-again : tie.Need-loop-again Inv-loop μ-loop
 unfolding mulVecTo
 loop-again c =
     let loop = c .before .before .loop in
-    (omega arith, simp length-set (loop .inv .1), rw (add-one (loop .row), ← loop .inv .2, c .dots .ensures))
+    (omega arith, simp length-set (loop .inv .1), rw (add-one (loop .row), ← loop .inv .2, c .dots .ensures) (simp (mul-one, zero-add)))
 
 same-length : tie.Need-same-length Inv-loop μ-loop
 same-length c = c .before .loop .inv .1
