@@ -5,6 +5,7 @@ ghost use Prim.Native.Nat.{_<_, _≤_};
 ghost use Rattle.binary64.specs.Steps.{_⊕_};
 ghost use Rattle.dense.specs.Entries.{at, put, mulVec};
 ghost use Rattle.dense.specs.Factor.{verdict, cholesky};
+ghost use Rattle.dense.specs.Sandwich.{sandwich};
 ghost use Rattle.linalg.specs.Methods.{zeros, matrix};
 
 pub struct Matrix {
@@ -52,6 +53,15 @@ impl Matrix {
         ensures { λ r. ⌜ verdict r (now (l .exit)) ≡ cholesky (now (a .entry)) n (now (l .entry)) ⌝ }
     {
         dense::cholesky(a, n, &mut *l)
+    }
+
+    // `A inner A` for a symmetric `A`: the covariance `inner` carried through the linear map `A`,
+    // symmetric by construction, into the array of a `Matrix`.
+    pub fn sandwich(a: &[f64; 1024], n: usize, inner: &[f64; 1024], m: &mut [f64; 1024])
+        requires { ⌜ n ≤ 32 ⌝ }
+        ensures { λ _. ⌜ now (m .exit) ≡ sandwich (now (a .entry)) n (now (inner .entry)) (now (m .entry)) ⌝ }
+    {
+        dense::sandwich(a, n, inner, &mut *m);
     }
 
     // `A v`, into y.
