@@ -136,6 +136,104 @@ impl Tally {
         }
     }
 
+    /// A call with its refusals: its number, and every entry of what it was lent.
+    fn call(&mut self, what: &str, n: usize, answer: u32, number: u32, out: &[f64], wanted: &[f64]) {
+        self.number(what, n, f64::from(answer), f64::from(number));
+        self.array(what, n, out, wanted, &[]);
+    }
+
+    fn sandwich(&mut self, a: &Matrix, inner: &Matrix) {
+        let n = a.n;
+        let rust = a.sandwich(inner).data;
+        let mut m = [MARK; 1024];
+        unsafe { port::matrix_sandwich(&array(&a.data, MARK), n, &array(&inner.data, MARK), &mut m) };
+        self.array("Matrix::sandwich", n, &m, &rust, &[MARK; 1024]);
+        let mut out = vec![MARK; n * n];
+        let answer = port::sandwich(n, &a.data, &inner.data, &mut out);
+        self.call("sandwich", n, answer, 0, &out, &rust);
+    }
+
+    fn forward_rows(&mut self, factor: &Cholesky, q: &[f64], width: usize) {
+        let n = factor.n;
+        let rust = factor.forward_rows(q, width);
+        let mut r: [f64; 1024] = array(q, MARK);
+        unsafe { port::cholesky_forward_rows(&array(&factor.l, MARK), n, width, &mut r) };
+        self.array("Cholesky::forward_rows", n, &r, &rust, &[MARK; 1024]);
+        let mut out = vec![MARK; n * width];
+        let answer = port::forward_rows(n, width, &factor.l, q, &mut out);
+        self.call("forward_rows", n, answer, 0, &out, &rust);
+    }
+
+    fn triangular(&mut self, factor: &Cholesky) {
+        let n = factor.n;
+        let l: [f64; 1024] = array(&factor.l, MARK);
+        let rust = factor.inverse_triangular().data;
+        let mut m = [MARK; 1024];
+        unsafe { port::cholesky_inverse_triangular(&l, n, &mut m) };
+        self.array("Cholesky::inverse_triangular", n, &m, &rust, &[MARK; 1024]);
+        let mut out = vec![MARK; n * n];
+        let answer = port::inverse_triangular(n, &factor.l, &mut out);
+        self.call("inverse_triangular", n, answer, 0, &out, &rust);
+        let rust = factor.inverse_diagonal();
+        let mut d = [MARK; 32];
+        unsafe { port::cholesky_inverse_diagonal(&l, n, &mut d) };
+        self.array("Cholesky::inverse_diagonal", n, &d, &rust, &[MARK; 32]);
+        let mut out = vec![MARK; n];
+        let answer = port::inverse_diagonal(n, &factor.l, &mut out);
+        self.call("inverse_diagonal", n, answer, 0, &out, &rust);
+    }
+
+    /// The factor with its zeros, or 6 and what was there.
+    fn factor(&mut self, a: &Matrix, rust: Option<&Cholesky>) {
+        let mut out = vec![MARK; a.n * a.n];
+        let answer = port::cholesky(a.n, &a.data, &mut out);
+        let marks = vec![MARK; a.n * a.n];
+        let (number, wanted) = rust.map_or((6, &marks), |factor| (0, &factor.l));
+        self.call("cholesky", a.n, answer, number, &out, wanted);
+    }
+
+    /// A size or a width over 32, or one length that does not match: 21, and what was there.
+    fn wrong_sizes(&mut self, random: &mut Random, n: usize, width: usize) {
+        let over = [33, 34, 64, 1 << 31, 1 << 32, (1 << 32) + 1, usize::MAX][random.below(7)];
+        let (mut size, mut wide) = (n, width);
+        let mut lengths = [n * n, n * n, n * width, n * n, n * width, n];
+        match random.below(3) {
+            0 => size = over,
+            1 => wide = over,
+            _ => {
+                let at = random.below(lengths.len());
+                lengths[at] = [lengths[at] + 1, lengths[at].wrapping_sub(1).min(40), 0, 33 * 33][random.below(4)];
+            }
+        }
+        let square = |length: usize| size <= 32 && length == size * size;
+        let rows = |length: usize| size <= 32 && wide <= 32 && length == size * wide;
+        let [first, second, third, square_out, rows_out, column_out] = lengths;
+        let q: Vec<f64> = random.vector(first.max(second).max(third));
+        let (a, b, c) = (&q[..first], &q[..second], &q[..third]);
+        let mut tried = |what: &str, sound: bool, length: usize, call: &mut dyn FnMut(&mut [f64]) -> u32| {
+            let mut out = vec![MARK; length];
+            let answer = call(&mut out);
+            if !sound {
+                self.call(what, n, answer, 21, &out, &vec![MARK; length]);
+            }
+        };
+        tried("sandwich, sizes", square(first) && square(second) && square(square_out), square_out, &mut |out| {
+            port::sandwich(size, a, b, out)
+        });
+        tried("forward_rows, sizes", square(first) && rows(third) && rows(rows_out), rows_out, &mut |out| {
+            port::forward_rows(size, wide, a, c, out)
+        });
+        tried("inverse_triangular, sizes", square(first) && square(square_out), square_out, &mut |out| {
+            port::inverse_triangular(size, a, out)
+        });
+        tried("inverse_diagonal, sizes", square(first) && column_out == size, column_out, &mut |out| {
+            port::inverse_diagonal(size, a, out)
+        });
+        tried("cholesky, sizes", square(first) && square(square_out), square_out, &mut |out| {
+            port::cholesky(size, a, out)
+        });
+    }
+
     fn entries(&mut self, random: &mut Random, a: &Matrix) {
         let n = a.n;
         let mut m = [MARK; 1024];
@@ -180,6 +278,7 @@ impl Tally {
         self.matrices[kind] += 1;
         self.found[kind] += u64::from(factor.is_some());
         self.cholesky(&a, factor.as_ref());
+        self.factor(&a, factor.as_ref());
         self.mul_vec(&a, &random.vector(n));
         self.entries(random, &a);
         self.vec3(random);
@@ -189,6 +288,13 @@ impl Tally {
         };
         self.solves(&factor, &random.vector(n));
         self.inverse(&factor);
+        let inner_kind = random.below(KINDS.len());
+        let inner = Matrix { n, data: random.matrix(inner_kind, n) };
+        let width = random.below(33);
+        self.sandwich(&a, &inner);
+        self.forward_rows(&factor, &random.vector(n * width), width);
+        self.triangular(&factor);
+        self.wrong_sizes(random, n, width);
     }
 
     fn report(&self) {
