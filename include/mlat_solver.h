@@ -199,6 +199,35 @@ uint32_t mlat_to_archive(const uint8_t *record, size_t record_len, uint8_t *out,
    152 bytes again. A refusal leaves out as it was, and bytes past 176 never change. out does not overlap record. */
 uint32_t mlat_from_archive(const uint8_t *record, size_t record_len, uint8_t *out, size_t out_len);
 
+/* ---- matrices: the remaining calculations of linalg.rs */
+
+/* A matrix is n rows of n numbers one after the other, n from 0 to 32; lengths are numbers of doubles. Each result has the
+   bits of linalg.rs, in its order of sums, each sum from plus zero. Each call returns 0 and writes all of out; or
+   MLAT_WRONG_SIZE where n or width is over 32 or a length does not match, which is tested before any number is read, and
+   then out stays as it was. No pointer is NULL, and out overlaps no input. */
+
+/* a * inner * a for a symmetric a (n * n entries each, out too): the covariance inner carried through the linear map a.
+   The result is symmetric to the bit, whatever a and inner hold. */
+uint32_t mlat_sandwich(size_t n, const double *a, size_t a_len, const double *inner, size_t inner_len, double *out,
+                       size_t out_len);
+
+/* R with L R = Q: l is a factor (n * n), q and out are n rows of width numbers, width from 0 to 32. An entry of l left of
+   the diagonal that equals 0, of either sign, is passed over: what stands in its row of q does not show through it. */
+uint32_t mlat_forward_rows(size_t n, size_t width, const double *l, size_t l_len, const double *q, size_t q_len,
+                           double *out, size_t out_len);
+
+/* The inverse of the matrix with the factor l (n * n, out too), as the product of the factor's inverse, transposed, and
+   itself. Symmetric to the bit, for every factor and for any numbers in its place. */
+uint32_t mlat_inverse_triangular(size_t n, const double *l, size_t l_len, double *out, size_t out_len);
+
+/* The diagonal of that inverse alone: out has n entries, each with the bits that mlat_inverse_triangular gives there. */
+uint32_t mlat_inverse_diagonal(size_t n, const double *l, size_t l_len, double *out, size_t out_len);
+
+/* The Cholesky factor L of a (n * n, out too), lower triangular, a = L * L transposed. Of a the entries on and left of the
+   diagonal are read alone; right of its diagonal the factor has plus zeros. Returns also MLAT_SINGULAR where a pivot is not
+   above 0 or is not a number, and then out stays as it was. */
+uint32_t mlat_cholesky(size_t n, const double *a, size_t a_len, double *out, size_t out_len);
+
 #ifdef __cplusplus
 }
 #endif

@@ -1,7 +1,8 @@
 // What is open to callers, under its C names: a module a subject, as in include/mlat_solver.h (numbers, geodesy, claims, solve,
-// states, records, positions, archives).
+// states, records, positions, archives, algebra).
 // Each function takes every value and demands nothing. An array of fixed length that is lent as `&mut` is written
 // whole, or stays as it was where the call is refused.
+mod algebra;
 mod archives;
 mod claims;
 mod geodesy;
@@ -11,6 +12,11 @@ mod records;
 mod solve;
 mod states;
 
+pub use algebra::mlat_cholesky;
+pub use algebra::mlat_forward_rows;
+pub use algebra::mlat_inverse_diagonal;
+pub use algebra::mlat_inverse_triangular;
+pub use algebra::mlat_sandwich;
 pub use archives::mlat_from_archive;
 pub use archives::mlat_to_archive;
 pub use claims::mlat_chi2_limit;
