@@ -34,10 +34,13 @@
 //!
 //! [`Fix::to_wire`] has a position as whole numbers, as it is published, and [`Wire::position`] the way back.
 //! [`Record::to_archive`] and [`Record::from_archive`] move a record to the archive's form of 152 bytes and back.
+//! [`cholesky`] has the factor of a matrix, and [`inverse_triangular`], [`inverse_diagonal`], [`forward_rows`] and
+//! [`sandwich`] what the source calculates with factors and matrices, to the bit.
 
 mod altitude;
 mod archive;
 mod fix;
+mod matrices;
 mod reception;
 mod record;
 mod records;
@@ -48,6 +51,7 @@ mod wire;
 pub use altitude::{Altitude, Reported};
 pub use archive::{ARCHIVED, from_archive, to_archive};
 pub use fix::Fix;
+pub use matrices::{cholesky, forward_rows, inverse_diagonal, inverse_triangular, sandwich};
 pub use reception::{ObservationId, RECEPTION, Reception};
 pub use record::{Record, read, write};
 pub use records::{Iter, Records};
