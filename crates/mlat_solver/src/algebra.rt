@@ -16,7 +16,13 @@ pub extern "C" fn mlat_sandwich(n: usize, a: &[f64], inner: &[f64], out: &mut [f
 
 // R with L R = Q, for the factor l and the n rows q of `width` numbers. A factor's entry that equals 0 is passed over.
 #[no_mangle]
-pub extern "C" fn mlat_forward_rows(n: usize, width: usize, l: &[f64], q: &[f64], out: &mut [f64]) -> u32
+pub extern "C" fn mlat_forward_rows(
+    n: usize,
+    width: usize,
+    l: &[f64],
+    q: &[f64],
+    out: &mut [f64],
+) -> u32
     ensures answer { λ r. ⌜ r
         ≡ calls.forwardRowsAnswer n width (now (l .entry)) (now (q .entry)) (now (out .entry)) ⌝ }
     ensures output { λ _. ⌜ now (out .exit)
