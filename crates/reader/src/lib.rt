@@ -7,6 +7,7 @@ mod rules;
 pub use content::Content;
 pub use content::Reading;
 pub use fields::altitude_of;
+pub use rules::record_refusal;
 ghost use mathlib.Core.Path.{_≡_};
 ghost use lib.ListN.{length};
 ghost use Rattle.reader.specs.Read as reads;

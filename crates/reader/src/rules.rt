@@ -5,6 +5,7 @@ ghost use Prim.Native.Nat.{_+_, _*_, _≤_};
 ghost use lib.ListN.{length};
 ghost use Rattle.binary64.specs.Steps.{#, isFinite};
 ghost use Rattle.reader.specs.Tests as tests;
+ghost use Rattle.reader.specs.Read.{readOf};
 
 // The sign bit of an f64, and the bits of infinity.
 const SIGN: u64 = 0x8000_0000_0000_0000;
@@ -178,4 +179,17 @@ pub fn meets_rules(s: &[u8]) -> bool
         return good_fix(s);
     }
     good_refusal(s)
+}
+
+// Why a record is not taken apart: 16 where it is not 176 bytes long, 18 where it breaks a rule. 0 where it is.
+pub fn record_refusal(bytes: &[u8]) -> u32
+    ensures { λ r. ⌜ r ≡ readOf (now (bytes .entry)) .refusal ⌝ }
+{
+    if bytes.len() != 176 {
+        return refusals::TORN_FILE;
+    }
+    if !meets_rules(bytes) {
+        return refusals::MALFORMED_RECORD;
+    }
+    0
 }
