@@ -227,6 +227,25 @@ uint32_t mlat_inverse_diagonal(size_t n, const double *l, size_t l_len, double *
    diagonal are read alone; right of its diagonal the factor has plus zeros. Returns also MLAT_SINGULAR where a pivot is not
    above 0 or is not a number, and then out stays as it was. */
 uint32_t mlat_cholesky(size_t n, const double *a, size_t a_len, double *out, size_t out_len);
+/* ---- nearby: the fixes of a file near a place
+
+   A file is whole records of 176 bytes, one after the other; a place counts its records from 0. Its refused solves are
+   passed over. The distance of a fix is the root of the sum of the squares of its ECEF position less the point, in
+   doubles, each step rounded, the sum from the left. It is never a not-a-number, and may be infinite. */
+
+/* The places of the fixes at most radius metres from the point, ascending, in the first entries of places, each once and
+   no other place; how many they are in *count. Entries past them stay. Returns 0; MLAT_SHORT_OUTPUT where places_len is
+   under file_len / 176, rounded down; then MLAT_TORN_FILE where the file is not whole records, MLAT_MALFORMED_RECORD
+   where mlat_read_record turns a record of it away, and MLAT_BAD_QUERY where the radius or a coordinate is not finite or
+   beyond 10^8 in size, or the radius is negative (-0 is not). A refusal leaves places and count as they were. What is
+   lent does not overlap. */
+uint32_t mlat_within(const uint8_t *file, size_t file_len, const double point[3], double radius, uint64_t *places,
+                     size_t places_len, uint64_t *count);
+
+/* The place of the fix nearest to the point, the earliest of several at that distance; UINT64_MAX exactly where the file
+   has no fix. Returns 0, MLAT_TORN_FILE, MLAT_MALFORMED_RECORD or MLAT_BAD_QUERY, tested in this order; a refusal leaves
+   *place as it was. */
+uint32_t mlat_nearest(const uint8_t *file, size_t file_len, const double point[3], uint64_t *place);
 
 #ifdef __cplusplus
 }

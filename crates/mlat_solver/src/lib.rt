@@ -1,11 +1,13 @@
 // What is open to callers, under its C names: a module a subject, as in include/mlat_solver.h (numbers, geodesy, claims, solve,
 // states, records, positions, archives, algebra).
+// states, records, positions, archives, nearby).
 // Each function takes every value and demands nothing. An array of fixed length that is lent as `&mut` is written
 // whole, or stays as it was where the call is refused.
 mod algebra;
 mod archives;
 mod claims;
 mod geodesy;
+mod nearby;
 mod numbers;
 mod positions;
 mod records;
@@ -27,6 +29,8 @@ pub use geodesy::mlat_from_ecef;
 pub use geodesy::mlat_from_mm;
 pub use geodesy::mlat_to_ecef;
 pub use geodesy::mlat_to_mm;
+pub use nearby::mlat_nearest;
+pub use nearby::mlat_within;
 pub use numbers::mlat_atan2;
 pub use numbers::mlat_cos;
 pub use numbers::mlat_hypot;
