@@ -18,6 +18,18 @@ pub fn read(record: &[u8], held: &mut Held) -> u32 {
     let Ok(record) = <&[u8; LENGTH]>::try_from(record) else {
         return TORN_FILE;
     };
+    let Some((words, numbers)) = taken_apart(record) else {
+        return MALFORMED_RECORD;
+    };
+    held.words = words;
+    held.numbers = numbers;
+    held.transmit_ps = i64::from_le_bytes(record[72..80].try_into().expect("eight bytes"));
+    0
+}
+
+/// The words and the numbers of a record that meets the rules.
+#[inline(always)]
+pub fn taken_apart(record: &[u8; LENGTH]) -> Option<([u32; 6], [f64; 18])> {
     let word = |at: usize| u32::from_le_bytes(record[at..at + 4].try_into().expect("four bytes"));
     let float = |at: usize| f64::from_le_bytes(record[at..at + 8].try_into().expect("eight bytes"));
     let version = u16::from_le_bytes([record[160], record[161]]);
@@ -30,13 +42,7 @@ pub fn read(record: &[u8], held: &mut Held) -> u32 {
         0 => record[163..168] == [0; 5] && fix_is_sound(&words, &numbers),
         _ => record[12..] == [0; LENGTH - 12] && refusal_is_sound(&words),
     };
-    if !sound {
-        return MALFORMED_RECORD;
-    }
-    held.words = words;
-    held.numbers = numbers;
-    held.transmit_ps = i64::from_le_bytes(record[72..80].try_into().expect("eight bytes"));
-    0
+    sound.then_some((words, numbers))
 }
 
 fn fix_is_sound(words: &[u32; 6], numbers: &[f64; 18]) -> bool {
