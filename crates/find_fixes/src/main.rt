@@ -1,0 +1,446 @@
+// Names the fixes of a file of records near a place: document 02, item 12.
+//
+//     find_fixes FILE LATITUDE LONGITUDE HEIGHT RADIUS    degrees, metres above the ellipsoid, metres
+//     find_fixes FILE --ecef X Y Z RADIUS                 metres
+//
+// The nearest fix of the file comes first, then a line for each within the radius, in file order: its place, from 0,
+// and its distance. A file or a query that is turned away is said on standard error, and then nothing is written.
+//
+// The file is read block by block, for the language has no heap: each block is whole records, but for the last of a
+// torn file, and what is found in a block is found by `near`.
+use geo::Geodetic;
+use libc::STDERR_FILENO;
+use libc::STDOUT_FILENO;
+use linalg::Vec3;
+
+// The bytes of a record, the records of a block, and its bytes.
+const SIZE: usize = 176;
+
+const RECORDS: usize = 256;
+
+const BLOCK: usize = 45056;
+
+// In place of a refusal, where a file cannot be read: no call gives it.
+const UNREAD: u32 = 255;
+
+// With fewer than this there is room for a digit more. A whole number of 15 digits is one that an f64 holds, and so is a
+// power of ten below that, so that their quotient is the f64 nearest to the decimal.
+const MOST: u64 = 100_000_000_000_000;
+
+// What is read of a decimal: `whole` / `scale`, if it is good. There was a digit where it has `some`.
+struct Digits {
+    good: bool,
+    some: bool,
+    point: bool,
+    whole: u64,
+    scale: u64,
+}
+
+// A number that was read, if it is good.
+struct Number {
+    good: bool,
+    value: f64,
+}
+
+// The nearest fix so far, its place and how far it is; and why the file is turned away, 0 where it is not.
+struct Best {
+    found: bool,
+    place: u64,
+    distance: f64,
+    refusal: u32,
+}
+
+// That, and whether the block was the last.
+struct Turn {
+    last: bool,
+    best: Best,
+}
+
+// What is asked for: those within the radius are named, or the nearest is found.
+struct Query {
+    point: Vec3,
+    radius: f64,
+    name: bool,
+}
+
+fn say(text: &[u8]) {
+    io::write_all(STDERR_FILENO, text);
+}
+
+fn print(text: &[u8]) {
+    io::write_all(STDOUT_FILENO, text);
+}
+
+fn print_number(number: u64) {
+    io::print_decimal(STDOUT_FILENO, number);
+}
+
+// ---- numbers as people write them: digits with a point among them or none, a minus in front or none
+
+fn spoilt() -> Digits {
+    Digits {
+        good: false,
+        some: true,
+        point: true,
+        whole: 0,
+        scale: 1,
+    }
+}
+
+// The digits and a point.
+fn pointed(d: Digits) -> Digits {
+    if d.point {
+        return spoilt();
+    }
+    Digits {
+        good: d.good,
+        some: d.some,
+        point: true,
+        whole: d.whole,
+        scale: d.scale,
+    }
+}
+
+// The digits and one more byte.
+fn next(d: Digits, byte: u8) -> Digits {
+    if byte == b'.' {
+        return pointed(d);
+    }
+    if byte < b'0' {
+        return spoilt();
+    }
+    if byte > b'9' {
+        return spoilt();
+    }
+    if d.whole >= MOST {
+        return spoilt();
+    }
+    if d.scale >= MOST {
+        return spoilt();
+    }
+    let whole = 10 * d.whole + (byte - b'0') as u64;
+    let scale = if d.point { 10 * d.scale } else { d.scale };
+    Digits {
+        good: d.good,
+        some: true,
+        point: d.point,
+        whole,
+        scale,
+    }
+}
+
+// The digits of the text from byte `from` on.
+fn digits_from(text: &[u8], from: usize) -> Digits {
+    let mut d = Digits {
+        good: true,
+        some: false,
+        point: false,
+        whole: 0,
+        scale: 1,
+    };
+    for i in from..text.len() {
+        let more = next(d, text[i]);
+        d = more;
+    }
+    d
+}
+
+fn value(d: Digits, minus: bool) -> Number {
+    let size = std::num::nearest_u64_to_f64(d.whole) / std::num::nearest_u64_to_f64(d.scale);
+    let value = if minus { -size } else { size };
+    Number {
+        good: d.good && d.some,
+        value,
+    }
+}
+
+// The number that the text is; not good where it is none, or has over 15 digits.
+fn parsed(text: &[u8]) -> Number {
+    if text.len() == 0 {
+        return value(spoilt(), false);
+    }
+    if text[0] == b'-' {
+        return value(digits_from(text, 1), true);
+    }
+    value(digits_from(text, 0), false)
+}
+
+// The number that argument i is.
+fn number_at(i: usize) -> Number {
+    let mut text = [0u8; 64];
+    let n = os::arg(i, &mut text);
+    parsed(&text[..n])
+}
+
+// ---- distances
+
+// Metres to the nearest millimetre.
+fn print_metres(metres: f64) {
+    let mm = metres * 1000.0 + 0.5;
+    if mm > -1.0 {
+        if mm < 18446744073709551616.0 {
+            let n = std::num::truncating_f64_to_u64(mm);
+            print_number(n / 1000);
+            print(b".");
+            print_number(n / 100 % 10);
+            print_number(n / 10 % 10);
+            print_number(n % 10);
+            return;
+        }
+    }
+    print(b"over 10^16");
+}
+
+// How far the position of a fix is from the point, as `near` has it.
+fn distance(bytes: &[u8], point: Vec3) -> f64 {
+    if bytes.len() != SIZE {
+        return 0.0;
+    }
+    let x = words::f64_at(bytes, 16);
+    let y = words::f64_at(bytes, 24);
+    let z = words::f64_at(bytes, 32);
+    linalg::norm(linalg::sub([x, y, z], point))
+}
+
+fn print_fix(place: u64, distance: f64) {
+    print(b"place ");
+    print_number(place);
+    print(b", ");
+    print_metres(distance);
+    print(b" m away\n");
+}
+
+// ---- what is turned away
+
+// A file that is torn is so by its last block, and that counts before any record.
+fn worse(before: u32, refusal: u32) -> u32 {
+    if refusal != 0 {
+        return refusal;
+    }
+    before
+}
+
+// 22 where the query is bad: what it gets of a file without records.
+fn query_refusal(point: Vec3, radius: f64) -> u32 {
+    let file = [0u8; 1];
+    let mut places = [0u64; 1];
+    let mut count = 0u64;
+    near::within(&file[..0], point, radius, &mut places, &mut count)
+}
+
+// ---- the nearest
+
+// The nearest so far, once a block is searched whose first record is at place `base`: the earlier of two at a tie.
+fn with_block(block: &[u8], base: u64, point: Vec3, best: Best) -> Best {
+    let mut place = 0u64;
+    let refusal = worse(best.refusal, near::nearest(block, point, &mut place));
+    let d = distance(reader::record_at(block, place), point);
+    let none = reader::place_refusal(block, place) != 0;
+    if none || best.found && best.distance <= d {
+        return Best {
+            found: best.found,
+            place: best.place,
+            distance: best.distance,
+            refusal,
+        };
+    }
+    Best {
+        found: true,
+        place: std::num::wrapping_add_u64(base, place),
+        distance: d,
+        refusal,
+    }
+}
+
+// Names the fixes of a block within the radius, a line each.
+fn name_block(block: &[u8], base: u64, point: Vec3, radius: f64) {
+    let mut places = [0u64; RECORDS];
+    let mut count = 0u64;
+    near::within(block, point, radius, &mut places, &mut count);
+    for i in 0..RECORDS {
+        if (i as u64) < count {
+            let place = places[i];
+            let d = distance(reader::record_at(block, place), point);
+            print_fix(std::num::wrapping_add_u64(base, place), d);
+        }
+    }
+}
+
+fn search_block(fd: i32, base: u64, query: Query, best: Best) -> Turn {
+    let mut block = [0u8; BLOCK];
+    let n = io::read_full(fd, &mut block);
+    let point = query.point;
+    if query.name {
+        name_block(&block[..n], base, point, query.radius);
+    }
+    let next = with_block(&block[..n], base, point, best);
+    Turn {
+        last: n < BLOCK,
+        best: next,
+    }
+}
+
+// The search of the file, block by block. Nothing says that a file ends, so the turns are counted down.
+fn search(fd: i32, query: Query) -> Best {
+    let mut turns = u64::MAX;
+    let mut base = 0u64;
+    let mut best = Best {
+        found: false,
+        place: 0,
+        distance: 0.0,
+        refusal: 0,
+    };
+    while turns > 0 {
+        let searched = search_block(fd, base, query, best);
+        let next = searched.best;
+        best = next;
+        if searched.last {
+            return best;
+        }
+        base = std::num::wrapping_add_u64(base, RECORDS as u64);
+        turns -= 1;
+    }
+    best
+}
+
+// ---- the whole
+
+// A file that cannot be read: that is said.
+fn unread(path: &[u8]) -> Best {
+    os::fail(path);
+    Best {
+        found: false,
+        place: 0,
+        distance: 0.0,
+        refusal: UNREAD,
+    }
+}
+
+// The nearest fix of the file, and those within the radius named, if that is asked.
+fn searched(path: &[u8], query: Query) -> Best {
+    let fd = os::open_read(path);
+    let mut byte = [0u8; 1];
+    if fd < 0 {
+        return unread(path);
+    }
+    let best = search(fd, query);
+    if libc::read(fd, &mut byte) < 0 {
+        return unread(path);
+    }
+    libc::close(fd);
+    best
+}
+
+// Says why a file is turned away, or else why the query is. Whether neither is.
+fn passed(file: u32, query: u32) -> bool {
+    if file == refusals::TORN_FILE {
+        say(b"find_fixes: the file is not whole records of 176 bytes (16, torn file)\n");
+    } else if file == refusals::MALFORMED_RECORD {
+        say(b"find_fixes: the file has a record that breaks a rule (18, malformed record)\n");
+    } else if file == 0 && query != 0 {
+        say(
+            b"find_fixes: the place or the radius is beyond 10^8 m, or the radius is negative (22, bad query)\n",
+        );
+    }
+    file == 0 && query == 0
+}
+
+fn print_nearest(best: Best) {
+    if best.found {
+        print(b"nearest: ");
+        print_fix(best.place, best.distance);
+    } else {
+        print(b"nearest: none, the file has no fix\n");
+    }
+}
+
+// A bad query is looked at after the file, which is searched from the origin then.
+fn place_asked(point: Vec3, good: bool) -> Vec3 {
+    if good {
+        return point;
+    }
+    [0.0, 0.0, 0.0]
+}
+
+fn find(path: &[u8], point: Vec3, radius: f64) {
+    let refusal = query_refusal(point, radius);
+    let from = place_asked(point, refusal == 0);
+    let best = searched(
+        path,
+        Query {
+            point: from,
+            radius,
+            name: false,
+        },
+    );
+    if passed(best.refusal, refusal) {
+        print_nearest(best);
+        searched(
+            path,
+            Query {
+                point,
+                radius,
+                name: true,
+            },
+        );
+    }
+}
+
+// The ECEF point at a latitude, a longitude and a height, or of these coordinates.
+fn point_of(x: f64, y: f64, z: f64, ecef: bool) -> Vec3 {
+    if ecef {
+        return [x, y, z];
+    }
+    geo::to_ecef(Geodetic {
+        lat_deg: x,
+        lon_deg: y,
+        height_m: z,
+    })
+}
+
+// Searches by four numbers, if each is good.
+fn asked(path: &[u8], x: Number, y: Number, z: Number, radius: Number, ecef: bool) {
+    if x.good && y.good && z.good && radius.good {
+        find(
+            path,
+            point_of(x.value, y.value, z.value, ecef),
+            radius.value,
+        );
+    } else {
+        say(
+            b"find_fixes: a number is at most 15 digits, with one point among them or none, and a minus or none\n",
+        );
+    }
+}
+
+fn main() {
+    let mut path = io::buffer();
+    let mut word = [0u8; 8];
+    let p = os::arg(1, &mut path);
+    let w = os::arg(2, &mut word);
+    let ecef = check::same(&word[..w], b"--ecef");
+    let count = os::arg_count();
+    if ecef && count == 7 {
+        asked(
+            &path[..p],
+            number_at(3),
+            number_at(4),
+            number_at(5),
+            number_at(6),
+            true,
+        );
+    } else if !ecef && count == 6 {
+        asked(
+            &path[..p],
+            number_at(2),
+            number_at(3),
+            number_at(4),
+            number_at(5),
+            false,
+        );
+    } else {
+        say(
+            b"usage: find_fixes FILE LATITUDE LONGITUDE HEIGHT RADIUS, or find_fixes FILE --ecef X Y Z RADIUS\n",
+        );
+    }
+}
