@@ -62,7 +62,7 @@ fn magnitude(rest: u64, unit: u64) -> u64
 }
 
 // `size`, or minus `size`.
-fn signed(minus: bool, size: u64) -> i32
+pub fn signed(minus: bool, size: u64) -> i32
     requires { ⌜ size < 2 ^ 31 ⌝ }
     ensures { λ r. ⌜ r ≡ signed minus size ⌝ }
 {
@@ -83,7 +83,7 @@ fn nearest(x: f64, unit: u64) -> i32
     signed(bits >= SIGN, magnitude(bits % SIGN, unit))
 }
 
-fn both(a: bool, b: bool) -> bool
+pub fn both(a: bool, b: bool) -> bool
     ensures { λ r. ⌜ r ≡ (a && b) ⌝ }
 {
     if a {
@@ -99,7 +99,7 @@ fn within(low: f64, high: f64, x: f64) -> bool
     both(low <= x, x <= high)
 }
 
-fn between(low: i32, high: i32, w: i32) -> bool
+pub fn between(low: i32, high: i32, w: i32) -> bool
     ensures { λ r. ⌜ r ≡ between low high w ⌝ }
 {
     both(low <= w, w <= high)
