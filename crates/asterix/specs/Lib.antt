@@ -1,0 +1,4 @@
+pub mod Multiples
+pub mod Items
+pub mod Meaning
+pub mod Edges
