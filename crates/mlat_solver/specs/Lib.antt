@@ -4,4 +4,5 @@ pub mod Meaning
 pub mod Records
 pub mod Display
 pub mod Positions
+pub mod Displays
 pub mod Solved

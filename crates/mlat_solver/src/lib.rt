@@ -1,11 +1,13 @@
 // What is open to callers, under its C names: a module a subject, as in include/mlat_solver.h (numbers, geodesy, claims, solve,
 // states, records, positions, archives, algebra).
 // states, records, positions, archives, nearby).
+// states, records, positions, archives, displays).
 // Each function takes every value and demands nothing. An array of fixed length that is lent as `&mut` is written
 // whole, or stays as it was where the call is refused.
 mod algebra;
 mod archives;
 mod claims;
+mod displays;
 mod geodesy;
 mod nearby;
 mod numbers;
@@ -24,6 +26,9 @@ pub use archives::mlat_to_archive;
 pub use claims::mlat_chi2_limit;
 pub use claims::mlat_enu_covariance;
 pub use claims::mlat_horizontal_sigma_m;
+pub use displays::mlat_read_asterix;
+pub use displays::mlat_to_asterix;
+pub use displays::mlat_write_asterix;
 pub use geodesy::mlat_enu_basis;
 pub use geodesy::mlat_from_ecef;
 pub use geodesy::mlat_from_mm;

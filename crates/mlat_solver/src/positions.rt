@@ -25,7 +25,7 @@ pub extern "C" fn mlat_to_wire(bytes: &[u8], numbers: &mut [i32; 3]) -> u32
     }
 }
 
-fn whole(numbers: &[i32; 3]) -> Wire
+pub fn whole(numbers: &[i32; 3]) -> Wire
     ensures { λ r. ⌜ r ≡ held.wireOf (now (numbers .entry)) ⌝ }
 {
     Wire {
