@@ -246,6 +246,26 @@ uint32_t mlat_within(const uint8_t *file, size_t file_len, const double point[3]
    has no fix. Returns 0, MLAT_TORN_FILE, MLAT_MALFORMED_RECORD or MLAT_BAD_QUERY, tested in this order; a refusal leaves
    *place as it was. */
 uint32_t mlat_nearest(const uint8_t *file, size_t file_len, const double point[3], uint64_t *place);
+/* ---- displays: items I020/041 and I020/105 of Eurocontrol's category 020, ten bytes */
+
+/* Writes the wire's numbers (mlat_to_wire) as the ten bytes of the two items, big-endian two's complement: latitude and
+   longitude, 32 bits each, the nearest multiples of 180/2^25 degree; height, 16 bits, the nearest multiple of 6.25 ft,
+   1,905 mm. No number of the wire lies halfway between two. Latitude 90 degrees is 01 00 00 00; a longitude that comes
+   to 180 degrees is that of -180, FE 00 00 00. What is written has latitude within 2^24 either way and longitude from
+   -2^25 to 2^25 - 1. Returns 0; MLAT_BEYOND_THE_ITEMS where out_len is not 10, latitude is beyond 90 degrees either
+   way, longitude beyond 180, or the height's multiple outside 16 bits (-62,423,992 to 62,422,087 mm fit), and then out
+   stays as it was. out does not overlap wire. */
+uint32_t mlat_to_asterix(const int32_t wire[3], uint8_t *out, size_t out_len);
+
+/* The three multiples of whichever ten bytes: multiples[0] latitude and multiples[1] longitude in 180/2^25 degree,
+   multiples[2] height in 6.25 ft. No place is tested. Returns 0; MLAT_BEYOND_THE_ITEMS where items_len is not 10, and
+   then multiples stays as it was. mlat_write_asterix gives the same ten bytes again. */
+uint32_t mlat_read_asterix(const uint8_t *items, size_t items_len, int32_t multiples[3]);
+
+/* Writes three multiples as the ten bytes. No place is tested. Returns 0; MLAT_BEYOND_THE_ITEMS where out_len is not 10
+   or multiples[2] is outside 16 bits, and then out stays as it was. mlat_read_asterix gives the same three again. out
+   does not overlap multiples. */
+uint32_t mlat_write_asterix(const int32_t multiples[3], uint8_t *out, size_t out_len);
 
 #ifdef __cplusplus
 }

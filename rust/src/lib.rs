@@ -36,9 +36,11 @@
 //! [`Record::to_archive`] and [`Record::from_archive`] move a record to the archive's form of 152 bytes and back.
 //! [`cholesky`] has the factor of a matrix, and [`inverse_triangular`], [`inverse_diagonal`], [`forward_rows`] and
 //! [`sandwich`] what the source calculates with factors and matrices, to the bit.
+//! [`Fix::to_asterix`] and [`Wire::to_asterix`] give the ten bytes of items I020/041 and I020/105, [`Multiples`] reads them.
 
 mod altitude;
 mod archive;
+mod asterix;
 mod fix;
 mod matrices;
 mod reception;
@@ -50,6 +52,7 @@ mod wire;
 
 pub use altitude::{Altitude, Reported};
 pub use archive::{ARCHIVED, from_archive, to_archive};
+pub use asterix::{ITEMS, Multiples, read_asterix, to_asterix, write_asterix};
 pub use fix::Fix;
 pub use matrices::{cholesky, forward_rows, inverse_diagonal, inverse_triangular, sandwich};
 pub use reception::{ObservationId, RECEPTION, Reception};
