@@ -266,6 +266,13 @@ uint32_t mlat_read_asterix(const uint8_t *items, size_t items_len, int32_t multi
    or multiples[2] is outside 16 bits, and then out stays as it was. mlat_read_asterix gives the same three again. out
    does not overlap multiples. */
 uint32_t mlat_write_asterix(const int32_t multiples[3], uint8_t *out, size_t out_len);
+/* ---- planning: what the screen does to small sets of receptions */
+
+/* Of all patterns of failing pairs that this many receptions can have, 2 to the number of pairs, counts[k] leave k
+   survivors, each pattern counted once. They add up to all patterns; counts past the number of receptions are 0, and so
+   is counts[0] where there is a reception. Three receptions have 8 patterns: one leaves 1, six leave 2, one leaves 3.
+   Returns 0; MLAT_OVER_SIX over six receptions, and then counts stays as it was. Six take some milliseconds. */
+uint32_t mlat_clash_patterns(uint32_t receptions, uint64_t counts[7]);
 
 #ifdef __cplusplus
 }

@@ -2,6 +2,7 @@
 // states, records, positions, archives, algebra).
 // states, records, positions, archives, nearby).
 // states, records, positions, archives, displays).
+// states, records, positions, archives, planning).
 // Each function takes every value and demands nothing. An array of fixed length that is lent as `&mut` is written
 // whole, or stays as it was where the call is refused.
 mod algebra;
@@ -11,6 +12,7 @@ mod displays;
 mod geodesy;
 mod nearby;
 mod numbers;
+mod planning;
 mod positions;
 mod records;
 mod solve;
@@ -43,6 +45,7 @@ pub use numbers::mlat_round;
 pub use numbers::mlat_sin;
 pub use numbers::mlat_sincos;
 pub use numbers::mlat_sqrt;
+pub use planning::mlat_clash_patterns;
 pub use positions::mlat_from_wire;
 pub use positions::mlat_to_wire;
 pub use records::mlat_read_record;
