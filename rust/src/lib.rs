@@ -37,12 +37,14 @@
 //! [`cholesky`] has the factor of a matrix, and [`inverse_triangular`], [`inverse_diagonal`], [`forward_rows`] and
 //! [`sandwich`] what the source calculates with factors and matrices, to the bit.
 //! [`Fix::to_asterix`] and [`Wire::to_asterix`] give the ten bytes of items I020/041 and I020/105, [`Multiples`] reads them.
+//! [`clash_patterns`] tells planners what the screen leaves of small sets of receptions.
 
 mod altitude;
 mod archive;
 mod asterix;
 mod fix;
 mod matrices;
+mod patterns;
 mod reception;
 mod record;
 mod records;
@@ -55,6 +57,7 @@ pub use archive::{ARCHIVED, from_archive, to_archive};
 pub use asterix::{ITEMS, Multiples, read_asterix, to_asterix, write_asterix};
 pub use fix::Fix;
 pub use matrices::{cholesky, forward_rows, inverse_diagonal, inverse_triangular, sandwich};
+pub use patterns::clash_patterns;
 pub use reception::{ObservationId, RECEPTION, Reception};
 pub use record::{Record, read, write};
 pub use records::{Iter, Records};
