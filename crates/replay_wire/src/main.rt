@@ -36,15 +36,6 @@ fn falsified(number: u8, after: &mut [u8], k: u64) -> u8 {
     number ^ 1
 }
 
-// The i32 with these bits.
-fn signed(bits: u32) -> i32 {
-    if bits < 0x8000_0000 {
-        return bits as i32;
-    }
-    let below = (0xffff_ffff - bits) as i32;
-    -1 - below
-}
-
 // Whether a record gets this number, and leaves the whole numbers that stand in `after`.
 fn written_alike(bytes: &[u8], number: u8, after: &[u8]) -> bool {
     if after.len() != 12 {
@@ -53,9 +44,9 @@ fn written_alike(bytes: &[u8], number: u8, after: &[u8]) -> bool {
     let mut numbers = [FOUND_I32; 3];
     let answer = mlat_solver::mlat_to_wire(bytes, &mut numbers);
     is_answer(answer, number)
-        && numbers[0] == signed(words::u32_at(after, 0))
-        && numbers[1] == signed(words::u32_at(after, 4))
-        && numbers[2] == signed(words::u32_at(after, 8))
+        && numbers[0] == words::i32_at(after, 0)
+        && numbers[1] == words::i32_at(after, 4)
+        && numbers[2] == words::i32_at(after, 8)
 }
 
 fn written_twice(bytes: &[u8], number: u8, after: &mut [u8], k: u64) -> Compared {
@@ -83,9 +74,9 @@ fn placed_alike(whole: &[u8; 12], number: u8, after: &[u8]) -> bool {
         return false;
     }
     let numbers = [
-        signed(words::u32_at(whole, 0)),
-        signed(words::u32_at(whole, 4)),
-        signed(words::u32_at(whole, 8)),
+        words::i32_at(whole, 0),
+        words::i32_at(whole, 4),
+        words::i32_at(whole, 8),
     ];
     let mut position = [binary64::from_bits(FOUND_U64); 3];
     let answer = mlat_solver::mlat_from_wire(&numbers, &mut position);
