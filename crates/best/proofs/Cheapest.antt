@@ -6,9 +6,9 @@ use Prim.Native.Nat.{ℕ, zero, suc, _<_}
 use native.Mathlib.Omega.{arith}
 use lib.Dec.{T, not-T}
 use lib.Ieee.{Float, lt, le, isNan}
-use Rattle.sets.specs.Choice.{consider, choose, IsChoice, Ranks}
+use Rattle.sets.specs.Choice.{consider, choose, FirstBest, IsChoice, Ranks}
 use Rattle.sets.proofs.Tests.{eq→T, same-T}
-use Rattle.sets.proofs.Choosing.{choose-is}
+use Rattle.sets.proofs.Choosing.{choose-is, choice-unique}
 use Rattle.best.proofs.Order.{lt-split, lt-asym, le-of-not-lt, lt-of-not-le, le-lt}
 
 -- a choice is a candidate below k, whatever beats what
@@ -74,3 +74,21 @@ module _ (p : ℕ → Bool) (cost : ℕ → Float) (number : (i : ℕ) → T (p 
 
   pub none-of : (k : ℕ) → choice k ≡ none → (j : ℕ) → j < k → T (not (p j))
   none-of k e = is-choice k none e
+
+  -- and there is one choice only
+  one-choice : (k : ℕ) (o : Option ℕ) → IsChoice p less k o → choice k ≡ o
+  one-choice k o h = choice-unique p less k (choice k) o (is-choice k (choice k) refl) h
+
+  pub of-cheapest : (k i : ℕ) → Cheapest k i → choice k ≡ some i
+  of-cheapest k i h = one-choice k (some i) first
+    where
+      first : FirstBest p less k i
+      first = record {
+        below = h .below;
+        candidate = h .candidate;
+        unbeaten = λ j l t. not-T (lt (cost j) (cost i)) (λ u. le-lt (cost j) (cost i) (h .cheapest j l t) u);
+        lowest = h .earliest;
+      }
+
+  pub of-none : (k : ℕ) → ((j : ℕ) → j < k → T (not (p j))) → choice k ≡ none
+  of-none k h = one-choice k none h

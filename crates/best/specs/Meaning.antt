@@ -1,5 +1,6 @@
--- What the best fit is, in words that know nothing of its computation. Statements only: proofs/Found.antt and proofs/Over.antt prove them.
+-- What the best fit is and when each refusal is given, in words that know nothing of the computation. Statements only: proofs/Found.antt and proofs/Over.antt prove them.
 use mathlib.Core.Path.{_≡_}
+use mathlib.Core.Logic.{_↔_}
 use mathlib.Core.Bool.{not}
 use mathlib.Core.List.{List, []}
 use mathlib.Core.Option.{Option}
@@ -7,6 +8,7 @@ use Prim.Native.Nat.{ℕ, _≤_, _<_}
 use lib.Dec.{T}
 use lib.ListN.{length, getD}
 use lib.Ieee.{Float, lt, le, isNan}
+use Rattle.binary64.specs.Steps.{_⊕_, decimal}
 use Rattle.geo.specs.Geo.{fromEcef}
 use Rattle.dense.specs.Factor as factor
 use Rattle.sets.specs.Sets.{Subset}
@@ -14,10 +16,11 @@ use Rattle.problem.specs.Problem.{position}
 use Rattle.whitening.specs.Whitened.{Chosen}
 use Rattle.damped.specs.declared.Fit.{Fit}
 use Rattle.damped.specs.Damped.{levenbergMarquardt}
-use Rattle.best.specs.declared.Unfit.the-variants.{NoConvergence, OutOfRange}
 use Rattle.limits.specs.Heights.{minHeightM, maxHeightM}
+use Rattle.limits.specs.Limits.{chi2Limit}
+use Rattle.best.specs.declared.Unfit.the-variants.{NoConvergence, OutOfRange, Ambiguous, Singular}
 use Rattle.best.specs.Plausible.{maxRangeM, range}
-use Rattle.best.specs.Best.{gives, fails, weighed, rival, best}
+use Rattle.best.specs.Best.{gives, fails, distance, best}
 use Rattle.best.specs.OfProblem.{Receptions, whitenerOver, chosenOver, startsOver, bestFitOver}
 
 -- Demand 3: "used ranges at most 600,000 m, height -1,500 to 25,000 m", as binary64 compares. The k sites are those of the receptions C.
@@ -32,27 +35,58 @@ module _ (C : Chosen) (starts : List (List Float)) where
   abbrev pub fitFrom : ℕ → Fit
   fitFrom i = levenbergMarquardt C (getD starts i [])
 
-  -- no fit from any start is a rival of this one
-  abbrev pub NoRival : Fit → Type 0
-  NoRival fit = (j : ℕ) → j < length starts → T (not (rival (C .sites) (C .k) fit (fitFrom j)))
+  -- the j-th is a start, and its fit converged
+  pub record Converges (j : ℕ) : Type 0 where
+    pub listed : j < length starts
+    pub converged : T (fitFrom j .ok)
 
-  -- The fit from the i-th start is the best: it converged and is plausible; of all that are, none costs less, and each from an earlier start costs more; and it has no rival.
+  -- and is plausible: such fits are weighed against each other
+  pub record Weighed (j : ℕ) : Type 0 where
+    pub converges : Converges j
+    pub plausible : Plausible C (fitFrom j)
+
+  -- The fit from the i-th start leads: of all that are weighed, it among them, none costs less, and each from an earlier start costs more.
+  pub record Leads (i : ℕ) : Type 0 where
+    pub weighed : Weighed i
+    pub cheapest : (j : ℕ) → Weighed j → T (le (fitFrom i .cost) (fitFrom j .cost))
+    pub earliest : (j : ℕ) → j < i → Weighed j → T (lt (fitFrom i .cost) (fitFrom j .cost))
+
+  -- Document 01: "A rival is a fit .. that converged, costs at most the best fit's cost plus 9 and meets the other tests by which `best_fit` answers 8": it is plausible, and "outside the best's own
+  -- 10^-6 ellipsoid".
+  pub record Rival (i j : ℕ) : Type 0 where
+    pub weighed : Weighed j
+    pub costs : T (le (fitFrom j .cost) (fitFrom i .cost ⊕ decimal 9 0))
+    pub outside : T (lt (chi2Limit 4) (distance (fitFrom i) (fitFrom j)))
+
+  -- the fit is the best: from the i-th start, which leads, and no fit from any start is its rival
   pub record IsBest (fit : Fit) (i : ℕ) : Type 0 where
-    pub listed : i < length starts
     pub from : fit ≡ fitFrom i
-    pub converged : T (fit .ok)
-    pub plausible : Plausible C fit
-    pub cheapest : (j : ℕ) → j < length starts → T (weighed (C .sites) (C .k) (fitFrom j)) → T (le (fit .cost) (fitFrom j .cost))
-    pub earliest : (j : ℕ) → j < i → T (weighed (C .sites) (C .k) (fitFrom j)) → T (lt (fit .cost) (fitFrom j .cost))
-    pub alone : NoRival fit
+    pub leads : Leads i
+    pub alone : (j : ℕ) → Rival i j → ⊥
 
-  -- what `best` answers of them: a fit that it gives is the best; "no start converges"; "some converge, none plausible". A fit that converged has a number for its cost, so that costs can be ranked.
+-- ---- the refusals, of receptions and their starts
+
+-- 8: one leads, and has a rival
+abbrev pub Rivalled : Chosen → List (List Float) → Type 0
+Rivalled C starts = (i : ℕ) × (j : ℕ) × Leads C starts i × Rival C starts i j
+
+-- 2: "no start converges"
+abbrev pub NoneConverges : Chosen → List (List Float) → Type 0
+NoneConverges C starts = (j : ℕ) → Converges C starts j → ⊥
+
+-- 3: "some converge, none plausible"
+abbrev pub NonePlausible : Chosen → List (List Float) → Type 0
+NonePlausible C starts = ((i : ℕ) × Converges C starts i) × ((j : ℕ) → Weighed C starts j → ⊥)
+
+module _ (C : Chosen) (starts : List (List Float)) where
+  -- Each is what `best` answers exactly when it is so, and it never answers 6. A fit that converged has a number for its cost, so that costs can be ranked.
   pub record Answered : Type 0 where
-    pub numbers : (i : ℕ) → T (fitFrom i .ok) → T (not (isNan (fitFrom i .cost)))
-    pub found : (fit : Fit) → best C starts ≡ gives fit → (i : ℕ) × IsBest fit i
-    pub noneConverges : best C starts ≡ fails NoConvergence → (j : ℕ) → j < length starts → T (not (fitFrom j .ok))
-    pub someConverges : best C starts ≡ fails OutOfRange → (i : ℕ) × (i < length starts) × T (fitFrom i .ok)
-    pub nonePlausible : best C starts ≡ fails OutOfRange → (j : ℕ) → j < length starts → T (not (weighed (C .sites) (C .k) (fitFrom j)))
+    pub numbers : (i : ℕ) → T (fitFrom C starts i .ok) → T (not (isNan (fitFrom C starts i .cost)))
+    pub found : (fit : Fit) → (best C starts ≡ gives fit) ↔ ((i : ℕ) × IsBest C starts fit i)
+    pub ambiguous : (best C starts ≡ fails Ambiguous) ↔ Rivalled C starts
+    pub noConvergence : (best C starts ≡ fails NoConvergence) ↔ NoneConverges C starts
+    pub outOfRange : (best C starts ≡ fails OutOfRange) ↔ NonePlausible C starts
+    pub notSingular : best C starts ≡ fails Singular → ⊥
 
 -- over a set S of the receptions R, after a round that found the parameters `previous`
 module _ (R : Receptions) (S : Subset) (previous : Option (List Float)) where
@@ -62,6 +96,14 @@ module _ (R : Receptions) (S : Subset) (previous : Option (List Float)) where
     pub best : IsBest (chosenOver R S l) (startsOver R S previous) fit i
     pub near : (j : ℕ) → j < R .n → T (S j) → T (le (range (R .site) (position (fit .params)) j) maxRangeM)
 
-  -- a round's best fit is that
-  abbrev pub FoundIsBestOver : Type 0
-  FoundIsBestOver = (fit : Fit) → R .n ≤ 32 → bestFitOver R S previous ≡ gives fit → (l : List Float) × (i : ℕ) × IsBestOver fit l i
+  -- some l whitens them, and this holds of what it makes of them and of the round's starts
+  abbrev pub Whitened : (Chosen → List (List Float) → Type 0) → Type 0
+  Whitened Holds = (l : List Float) × (whitenerOver R S ≡ factor.found l) × Holds (chosenOver R S l) (startsOver R S previous)
+
+  -- each is what a round's `best_fit` answers exactly when it is so; 6 where "a Cholesky of covariance .. fails"
+  pub record AnsweredOver : Type 0 where
+    pub found : R .n ≤ 32 → (fit : Fit) → (bestFitOver R S previous ≡ gives fit) ↔ ((l : List Float) × (i : ℕ) × IsBestOver fit l i)
+    pub ambiguous : (bestFitOver R S previous ≡ fails Ambiguous) ↔ Whitened Rivalled
+    pub noConvergence : (bestFitOver R S previous ≡ fails NoConvergence) ↔ Whitened NoneConverges
+    pub outOfRange : (bestFitOver R S previous ≡ fails OutOfRange) ↔ Whitened NonePlausible
+    pub singular : (bestFitOver R S previous ≡ fails Singular) ↔ ((l : List Float) × (whitenerOver R S ≡ factor.refused l))

@@ -19,7 +19,7 @@ use Rattle.inputs.specs.Faults.{numberOf, detailOf}
 use Rattle.inputs.specs.Inputs.{Inputs, inputsOf, checkInputs, problemOf}
 use Rattle.rounds.specs.Setting.{Answer, fix, refused, noFixedPoint}
 use Rattle.rounds.specs.Solve.{number, detail, solveProblem}
-use Rattle.rounds.specs.Demand.{rounds, Claim, Demand}
+use Rattle.rounds.specs.Demand.{rounds, remaining, Claim, Demand}
 use Rattle.record.specs.declared.content.Fix.{Fix}
 use Rattle.record.specs.Record.{refusal, stored}
 use Rattle.record.specs.Record as shown
@@ -76,4 +76,4 @@ pub record Demanded (P : Problem) (out : List ℕ) : Type 0 where
   pub answer : Answer Fix
   pub demand : Demand P answer
   pub written : take 176 out ≡ recordOf (P .n) (P .shown) answer
-  pub alone : (other : Answer Fix) → Claim (rounds P) other → other ≡ answer
+  pub alone : (other : Answer Fix) → Claim (rounds P) (remaining P) other → other ≡ answer

@@ -9,7 +9,7 @@ use Rattle.rounds.specs.declared.answer.Refusal.{Refusal}
 use Rattle.rounds.specs.declared.finish.Unpublished.{Unpublished}
 use Rattle.rounds.specs.Setting.{ofUnpublished, Answer, fix, refused, noFixedPoint, Setting, kept, survivors}
 use Rattle.rounds.specs.Rounds.{closed, roundsTo, solved}
-use Rattle.rounds.specs.Demand.{Settled, Ends, Chain, InTime, Fixed, Refused, early, late, Claim}
+use Rattle.rounds.specs.Demand.{Settled, Ends, Chain, InTime, Remaining, Fixed, Refused, early, late, Claim, Exactly}
 use Rattle.rounds.proofs.Chains.{all-kept, chain-within, after-chain, after-settled, after-end, Run, ended, settled, never, run}
 
 module _ {Q F X : Type 0} (P : Setting Q F X) where
@@ -33,54 +33,56 @@ module _ {Q F X : Type 0} (P : Setting Q F X) where
   closed-never (fails e) h = let z : _≡_ {A = ℕ} 0 1 = cc in omega arith
   closed-never (gives y) h = let z : _≡_ {A = ℕ} 0 1 = cc in omega arith
 
+-- the remaining steps come to what L says of them
+module _ {Q F X : Type 0} (P : Setting Q F X) (L : Remaining F X) (exact : Exactly P L) where
   -- ---- from the answer to the rounds
   module _ (a : Answer X) where
-    fixed-of : (x : X) → a ≡ fix x → Run P cap (kept P) none a → Fixed P x
+    fixed-of : (x : X) → a ≡ fix x → Run P (cap P) (kept P) none a → Fixed P L x
     fixed-of x h (ended k e l s w q) = absurd (let z : _≡_ {A = ℕ} 0 1 = cc in omega arith)
     fixed-of x h (never s q) = absurd (let z : _≡_ {A = ℕ} 0 1 = cc in omega arith)
     fixed-of x h (settled {E = E} {q = p} k f l s w q) =
-        record { used = E; before = p; inTime = record { changes = k; most = omega arith; chain = s }; best = f; settled = w; shown = closed-fix x (P .later E f) (sym q ∙ h) }
+        record { used = E; before = p; inTime = record { changes = k; most = omega arith; chain = s }; best = f; settled = w; shown = exact .shows E f x .0 (closed-fix P x (P .later E f) (sym q ∙ h)) }
 
-    refused-of : (e : Refusal) → a ≡ refused e → Run P cap (kept P) none a → Refused P e
+    refused-of : (e : Refusal) → a ≡ refused e → Run P (cap P) (kept P) none a → Refused P L e
     refused-of e h (ended {E = E} {q = p} k d l s w q) =
         let c : d ≡ e = cc in
         early E p (record { changes = k; most = omega arith; chain = s }) (rw c at w)
     refused-of e h (never s q) = absurd (let z : _≡_ {A = ℕ} 0 1 = cc in omega arith)
     refused-of e h (settled {E = E} {q = p} k f l s w q) =
-        let c = closed-refused e (P .later E f) (sym q ∙ h) in
-        late E p f (c .0) (record { changes = k; most = omega arith; chain = s }) w (c .1) (c .2)
+        let c = closed-refused P e (P .later E f) (sym q ∙ h) in
+        late E p f (c .0) (record { changes = k; most = omega arith; chain = s }) w (exact .withholds E f (c .0) .0 (c .1)) (c .2)
 
-    unfixed-of : a ≡ noFixedPoint → Run P cap (kept P) none a → Never
+    unfixed-of : a ≡ noFixedPoint → Run P (cap P) (kept P) none a → Never P
     unfixed-of h (ended k e l s w q) = absurd (let z : _≡_ {A = ℕ} 0 1 = cc in omega arith)
     unfixed-of h (never {E = E} {q = p} s q) = (E, p, s)
-    unfixed-of h (settled {E = E} k f l s w q) = absurd (closed-never (P .later E f) (sym q ∙ h))
+    unfixed-of h (settled {E = E} k f l s w q) = absurd (closed-never P (P .later E f) (sym q ∙ h))
 
   -- ---- from the rounds to the answer
   settles : (S : Subset) (p : Option Q) (f : F) → InTime P S p → Settled P S p f → solved P ≡ closed (P .later S f)
   unfolding solved
-  settles S p f t h = after-chain P (t .chain) (all-kept P) cap (suc (cap - suc (t .changes))) (omega (arith, t .most)) ∙ after-settled P S p f (cap - suc (t .changes)) (chain-within P (t .chain) (all-kept P)) h
+  settles S p f t h = after-chain P (t .chain) (all-kept P) (cap P) (suc (cap P - suc (t .changes))) (omega (arith, t .most)) ∙ after-settled P S p f (cap P - suc (t .changes)) (chain-within P (t .chain) (all-kept P)) h
 
   ends : (S : Subset) (p : Option Q) (e : Refusal) → InTime P S p → Ends P S p e → solved P ≡ refused e
   unfolding solved
-  ends S p e t h = after-chain P (t .chain) (all-kept P) cap (suc (cap - suc (t .changes))) (omega (arith, t .most)) ∙ after-end P S p e (cap - suc (t .changes)) (chain-within P (t .chain) (all-kept P)) h
+  ends S p e t h = after-chain P (t .chain) (all-kept P) (cap P) (suc (cap P - suc (t .changes))) (omega (arith, t .most)) ∙ after-end P S p e (cap P - suc (t .changes)) (chain-within P (t .chain) (all-kept P)) h
 
-  of-fixed : (x : X) → Fixed P x → solved P ≡ fix x
-  of-fixed x h = settles (h .used) (h .before) (h .best) (h .inTime) (h .settled) ∙ ap (closed) (h .shown)
+  of-fixed : (x : X) → Fixed P L x → solved P ≡ fix x
+  of-fixed x h = settles (h .used) (h .before) (h .best) (h .inTime) (h .settled) ∙ ap (closed) (exact .shows (h .used) (h .best) x .1 (h .shown))
 
-  of-refused : (e : Refusal) → Refused P e → solved P ≡ refused e
+  of-refused : (e : Refusal) → Refused P L e → solved P ≡ refused e
   of-refused e (early S p t w) = ends S p e t w
-  of-refused e (late S p f u t w r i) = settles S p f t w ∙ ap (closed) r ∙ ap refused (sym i)
+  of-refused e (late S p f u t w r i) = settles S p f t w ∙ ap (closed) (exact .withholds S f u .1 r) ∙ ap refused (sym i)
 
-  of-unfixed : Never → solved P ≡ noFixedPoint
+  of-unfixed : Never P → solved P ≡ noFixedPoint
   unfolding solved roundsTo
-  of-unfixed h = after-chain P (h .2) (all-kept P) cap 0 (omega arith)
+  of-unfixed h = after-chain P (h .2) (all-kept P) (cap P) 0 (omega arith)
 
-  solved-run : Run P cap (kept P) none (solved P)
+  solved-run : Run P (cap P) (kept P) none (solved P)
   unfolding solved
-  solved-run = run P cap (kept P) none (all-kept P)
+  solved-run = run P (cap P) (kept P) none (all-kept P)
 
   -- ---- the claim holds of the computation's answer
-  pub claim : Claim P (solved P)
+  pub claim : Claim P L (solved P)
   claim = record {
     fixed = λ x. ((λ e. fixed-of (solved P) x e solved-run), of-fixed x);
     refusals = λ e. ((λ q. refused-of (solved P) e q solved-run), of-refused e);
@@ -88,7 +90,7 @@ module _ {Q F X : Type 0} (P : Setting Q F X) where
   }
 
   -- and of no other
-  pub only : (a : Answer X) → Claim P a → a ≡ solved P
+  pub only : (a : Answer X) → Claim P L a → a ≡ solved P
   only (fix x) c = sym (claim .fixed x .1 (c .fixed x .0 refl))
   only (refused e) c = sym (claim .refusals e .1 (c .refusals e .0 refl))
   only noFixedPoint c = sym (claim .unfixed .1 (c .unfixed .0 refl))

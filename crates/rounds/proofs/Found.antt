@@ -12,7 +12,6 @@ use Rattle.binary64.specs.Steps.{nought}
 use Rattle.geo.specs.Geo.{fromEcef}
 use Rattle.dense.specs.Entries.{nth}
 use Rattle.dense.specs.Factor.{Factor, found, refused, cholesky}
-use Rattle.dense.specs.Inverse.{inverse}
 use Rattle.sets.specs.Sets.{Subset, count}
 use Rattle.sets.specs.Mask.{has, maskOf}
 use Rattle.sets.proofs.Tests.{and-both}
@@ -21,33 +20,30 @@ use Rattle.screen.specs.Pair as pair
 use Rattle.screen.proofs.Removal.{kept-below, kept-pass}
 use Rattle.problem.specs.declared.Problem.{Problem}
 use Rattle.problem.specs.Problem.{position, moment, four, minimum}
-use Rattle.limits.specs.Local.{published}
 use Rattle.whitening.specs.Whitened.{Chosen, residual, rawRow, whitened}
 use Rattle.damped.specs.declared.Fit.{Fit}
 use Rattle.limits.specs.Heights.{minHeightM, maxHeightM}
 use Rattle.best.specs.Plausible.{maxRangeM, range}
 use Rattle.best.specs.Best.{fails, gives}
 use Rattle.best.specs.OfProblem.{Receptions, receptionsOf, whitenerOver, chosenOver, startsOver}
-use Rattle.best.specs.Meaning.{NoRival, IsBestOver}
-use Rattle.best.proofs.Over.{found-is-best-over}
+use Rattle.best.specs.Meaning.{Plausible, IsBest, IsBestOver}
+use Rattle.best.proofs.Over.{answered-over}
 use Rattle.record.specs.declared.content.Fix.{Fix}
-use Rattle.rounds.specs.declared.finish.Unpublished.the-variants.{Inconsistent, Uncertain, OutOfRange}
+use Rattle.rounds.specs.declared.finish.Unpublished.the-variants.{Uncertain, OutOfRange}
 use Rattle.rounds.specs.Setting.{Answer, five, kept}
 use Rattle.rounds.specs.Finish.{held, transmitPs, certain, fixOf, inverted, finish}
-use Rattle.rounds.specs.Solve.{limitAt, normalised, dofOf, tested, later, settingAt, solveProblem}
-use Rattle.rounds.specs.Demand.{Fixed, Claim, rounds, usedBy, paramsBy, Found, DemandMet, OneAnswer}
+use Rattle.rounds.specs.Solve.{limitAt, normalised, dofOf, settingAt, solveProblem}
+use Rattle.rounds.specs.Later.{covarianceBy, transmit, Published}
+use Rattle.rounds.specs.Demand.{Fixed, Claim, rounds, remaining, usedBy, paramsBy, Found, DemandMet, OneAnswer}
 use Rattle.rounds.proofs.Chains.{all-kept, chain-within}
 use Rattle.rounds.proofs.Claim.{claim, only}
+use Rattle.rounds.proofs.Exact.{exact}
 
 -- ---- a fix of `finish`
 
--- the covariance that is published with the factor l
-abbrev pub publishedBy : List Float → List (List Float)
-publishedBy l = published (inverse l 4 (replicate 16 nought))
-
 pub finish-fix
     : (mask dof : ℕ) (reference : ℤ) (fit : Fit) (x : Fix) → finish mask dof reference fit ≡ gives x
-    → (l : List Float) × (ps : ℤ) × (x ≡ fixOf mask dof fit (publishedBy l) ps)
+    → (l : List Float) × (ps : ℤ) × (x ≡ fixOf mask dof fit (covarianceBy l) ps)
 unfolding finish
 finish-fix mask dof reference fit x e = go (cholesky (fit .information) 4 (replicate 16 nought)) e
   where
@@ -58,46 +54,12 @@ finish-fix mask dof reference fit x e = go (cholesky (fit .information) 4 (repli
 
     go
         : (f : Factor) → inverted mask dof reference fit f ≡ gives x
-        → (l : List Float) × (ps : ℤ) × (x ≡ fixOf mask dof fit (publishedBy l) ps)
+        → (l : List Float) × (ps : ℤ) × (x ≡ fixOf mask dof fit (covarianceBy l) ps)
     go (refused l) q = absurd (let z : _≡_ {A = ℕ} 0 1 = cc in omega arith)
     go (found l) q =
-        let c : List (List Float) = publishedBy l in
+        let c : List (List Float) = covarianceBy l in
         let ps : ℤ = transmitPs reference (moment (fit .params)) in
         (l, ps, tests (certain c) (held ps) c ps q)
-
--- ---- what the steps after the rounds passed
-module _ (R : Receptions) (reference : ℤ) (S : Subset) (fit : Fit) where
-  pub record Passed (x : Fix) : Type 0 where
-    pub l : List Float
-    pub whitens : whitenerOver R S ≡ found l
-    pub consistent : T (not (lt (limitAt (chosenOver R S l) (dofOf R S) (fit .params)) (fit .cost)))
-    pub c : List (List Float)
-    pub ps : ℤ
-    pub is : x ≡ fixOf (maskOf S (R .n)) (dofOf R S) fit c ps
-    pub finished : finish (maskOf S (R .n)) (dofOf R S) reference fit ≡ gives x
-
-  pub passed : (x : Fix) → later R reference S fit ≡ gives x → Passed x
-  unfolding later
-  passed x e = go (whitenerOver R S) refl e
-    where
-      test : (l : List Float) → whitenerOver R S ≡ found l → (b : Bool) → lt (limitAt (chosenOver R S l) (dofOf R S) (fit .params)) (fit .cost) ≡ b
-          → cond b (fails Inconsistent) (finish (maskOf S (R .n)) (dofOf R S) reference fit) ≡ gives x → Passed x
-      test l w true h q = absurd (let z : _≡_ {A = ℕ} 0 1 = cc in omega arith)
-      test l w false h q =
-          let f = finish-fix (maskOf S (R .n)) (dofOf R S) reference fit x q in
-          record {
-            l = l;
-            whitens = w;
-            consistent = subst (λ (t : Bool). T (not t)) (sym h) tt;
-            c = publishedBy (f .0);
-            ps = f .1;
-            is = f .2;
-            finished = q;
-          }
-
-      go : (f : Factor) → whitenerOver R S ≡ f → tested R reference S fit f ≡ gives x → Passed x
-      go (refused l) w q = absurd (let z : _≡_ {A = ℕ} 0 1 = cc in omega arith)
-      go (found l) w q = test l w (lt (limitAt (chosenOver R S l) (dofOf R S) (fit .params)) (fit .cost)) refl q
 
 -- ---- parameters by their four components
 residual-shown : (R : Receptions) (params : List Float) (j : ℕ) → normalised R (four (nth params)) j ≡ normalised R params j
@@ -109,7 +71,7 @@ unfolding limitAt whitened rawRow residual
 limit-shown C d params = refl
 
 -- ---- found with every fix
-module _ (P : Problem) (N : P .n ≤ 32) (x : Fix) (h : Fixed (rounds P) x) where
+module _ (P : Problem) (N : P .n ≤ 32) (x : Fix) (h : Fixed (rounds P) (remaining P) x) where
   abbrev R : Receptions
   R = receptionsOf P
 
@@ -119,12 +81,12 @@ module _ (P : Problem) (N : P .n ≤ 32) (x : Fix) (h : Fixed (rounds P) x) wher
   abbrev f : Fit
   f = h .best
 
-  past : Passed R (P .«reference_ps») S f x
-  past = passed R (P .«reference_ps») S f x (h .shown)
+  abbrev past : Published R (P .«reference_ps») S f x
+  past = h .shown
 
   -- what the record shows is what was found
-  shown : {A : Type 0} (part : Fix → A) → part x ≡ part (fixOf (maskOf S (P .n)) (dofOf R S) f (past .c) (past .ps))
-  shown part = ap part (past .is)
+  shown : {A : Type 0} (part : Fix → A) → part x ≡ part (fixOf (maskOf S (P .n)) (dofOf R S) f (covarianceBy (past .m)) (transmit (P .«reference_ps») f))
+  shown part = ap part (past .shows)
 
   within : (j : ℕ) → T (S j) → T (kept (rounds P) j)
   within = chain-within (rounds P) (h .inTime .chain) (all-kept (rounds P))
@@ -139,7 +101,7 @@ module _ (P : Problem) (N : P .n ≤ 32) (x : Fix) (h : Fixed (rounds P) x) wher
   in-used j t = subst (λ (A : Subset). T (A j)) uses t
 
   best-is : (l : List Float) × (i : ℕ) × IsBestOver R S (h .before) f l i
-  best-is = found-is-best-over R S (h .before) f N (h .settled .fitted .best)
+  best-is = answered-over R S (h .before) .found N f .0 (h .settled .fitted .best)
 
   abbrev l : List Float
   l = best-is .0
@@ -147,8 +109,11 @@ module _ (P : Problem) (N : P .n ≤ 32) (x : Fix) (h : Fixed (rounds P) x) wher
   abbrev is-best : IsBestOver R S (h .before) f l (best-is .1)
   is-best = best-is .2
 
+  flies : Plausible (chosenOver R S l) f
+  flies = subst (Plausible (chosenOver R S l)) (sym (is-best .best .from)) (is-best .best .leads .weighed .plausible)
+
   same-factor : past .l ≡ l
-  same-factor = inside (past .l) l (sym (past .whitens) ∙ is-best .whitens)
+  same-factor = inside (past .l) l (sym (past .informed .consistent .whitens) ∙ is-best .whitens)
     where
       inside : (a b : List Float) → found a ≡ found b → a ≡ b
       inside a b e = cc
@@ -179,24 +144,25 @@ module _ (P : Problem) (N : P .n ≤ 32) (x : Fix) (h : Fixed (rounds P) x) wher
     beyond = λ j k t. subst (λ (r : Float). T (lt five r)) (sym (residual-is j)) (h .settled .unused j (and-both (kept (rounds P) j) (not (S j)) k (subst (λ (A : Subset). T (not (A j))) uses t)));
     near = λ j t. subst (λ (p : List Float). T (le (range (P .site) p j) maxRangeM)) (sym ecef-is) (is-best .near j (below-n j (in-used j t)) (in-used j t));
     placed = shown (λ y. y .position) ∙ ap fromEcef (sym ecef-is);
-    height = subst (λ (q : Float). T (le minHeightM q) × T (le q maxHeightM)) (sym height-is) (is-best .best .plausible .above, is-best .best .plausible .below);
+    height = subst (λ (q : Float). T (le minHeightM q) × T (le q maxHeightM)) (sym height-is) (flies .above, flies .below);
     freedom = shown (λ y. y .dof) ∙ ap (dofOf R) (sym uses);
     factor = l;
     whitened = ap (whitenerOver R) uses ∙ is-best .whitens;
-    consistent = subst (λ (q : Float × Float). T (not (lt (q .0) (q .1)))) (ap₂ (λ (u v : Float). (u, v)) (sym limit-is) (sym (shown (λ y. y .chi2)))) (past .consistent);
-    best = (sym ecef-is, sym (shown (λ y. y .t)), sym (shown (λ y. y .chi2)));
-    noRival = subst (λ (A : Subset). NoRival (chosenOver R A l) (startsOver R A (h .before)) f) (sym uses) (is-best .best .alone);
+    consistent = subst (λ (q : Float × Float). T (not (lt (q .0) (q .1)))) (ap₂ (λ (u v : Float). (u, v)) (sym limit-is) (sym (shown (λ y. y .chi2)))) (past .informed .consistent .within);
+    shows = (sym ecef-is, sym (shown (λ y. y .t)), sym (shown (λ y. y .chi2)));
+    from = best-is .1;
+    best = subst (λ (A : Subset). IsBest (chosenOver R A l) (startsOver R A (h .before)) f (best-is .1)) (sym uses) (is-best .best);
   }
 
 -- ---- the theorems
 pub demand-met : DemandMet
 unfolding solveProblem
-demand-met P N = record { claim = claim (settingAt P); found = λ x h. found-with P N x h }
+demand-met P N = record { claim = claim (settingAt P) (remaining P) (exact P); found = λ x h. found-with P N x h }
 
 -- the claim alone decides the answer
-pub no-other : (P : Problem) (a : Answer Fix) → Claim (rounds P) a → a ≡ solveProblem P
+pub no-other : (P : Problem) (a : Answer Fix) → Claim (rounds P) (remaining P) a → a ≡ solveProblem P
 unfolding solveProblem
-no-other P = only (settingAt P)
+no-other P = only (settingAt P) (remaining P) (exact P)
 
 pub one-answer : OneAnswer
 one-answer P a d = no-other P a (d .claim)

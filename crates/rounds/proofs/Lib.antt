@@ -4,6 +4,7 @@ pub mod Choices
 pub mod Steps
 pub mod Chains
 pub mod Claim
+pub mod Exact
 pub mod Certainty
 pub mod Moments
 pub mod Finished

@@ -9,16 +9,17 @@ use Rattle.dense.specs.Inverse.{inverse}
 use Rattle.dense.proofs.Symmetry.{inverse-symmetric}
 use Rattle.limits.specs.Mirrored.{Mirrored}
 use Rattle.limits.proofs.Mirrors.{published-mirrored}
-use Rattle.best.specs.OfProblem.{receptionsOf}
 use Rattle.record.specs.declared.content.Fix.{Fix}
 use Rattle.rounds.specs.Solve.{settingAt, solveProblem}
-use Rattle.rounds.specs.Demand.{Fixed, rounds}
+use Rattle.rounds.specs.Demand.{Fixed, rounds, remaining}
 use Rattle.rounds.specs.Mirrored.{covariance, FinishMirrored, FixMirrored}
 use Rattle.rounds.proofs.Claim.{claim}
-use Rattle.rounds.proofs.Found.{publishedBy, finish-fix, passed}
+use Rattle.rounds.specs.Later.{covarianceBy}
+use Rattle.rounds.proofs.Exact.{exact}
+use Rattle.rounds.proofs.Found.{finish-fix}
 
 -- of every factor
-covariance-mirrored : (l : List Float) → Mirrored (publishedBy l)
+covariance-mirrored : (l : List Float) → Mirrored (covarianceBy l)
 covariance-mirrored l = published-mirrored (inverse l 4 (replicate 16 nought)) (inverse-symmetric l 4 (replicate 16 nought) (omega arith))
 
 pub finish-mirrored : FinishMirrored
@@ -29,5 +30,5 @@ finish-mirrored mask dof reference fit x e =
 pub fix-mirrored : FixMirrored
 unfolding solveProblem
 fix-mirrored P x e =
-    let h : Fixed (rounds P) x = claim (settingAt P) .fixed x .0 e in
-    finish-mirrored _ _ _ (h .best) x (passed (receptionsOf P) (P .«reference_ps») (h .used) (h .best) x (h .shown) .finished)
+    let h : Fixed (rounds P) (remaining P) x = claim (settingAt P) (remaining P) (exact P) .fixed x .0 e in
+    subst (λ (y : Fix). Mirrored (covariance y)) (sym (h .shown .shows)) (covariance-mirrored (h .shown .m))

@@ -14,16 +14,15 @@ use Rattle.problem.specs.Problem.{minimum}
 use Rattle.limits.specs.Limits.{dof}
 use Rattle.best.specs.declared.Unfit.{Unfit}
 use Rattle.best.specs.declared.Unfit.the-variants as unfit
-use Rattle.best.specs.OfProblem.{receptionsOf}
 use Rattle.record.specs.declared.content.Fix.{Fix}
 use Rattle.rounds.specs.declared.answer.Refusal.the-variants.{TooFew}
 use Rattle.rounds.specs.declared.finish.Unpublished.{Unpublished}
 use Rattle.rounds.specs.declared.finish.Unpublished.the-variants as unpublished
 use Rattle.rounds.specs.Setting.{fix, refused, ofUnfit, ofUnpublished}
 use Rattle.rounds.specs.Solve.{hasAltitude, solveProblem}
-use Rattle.rounds.specs.Demand.{Fixed, Refused, early, late, few, unnumbered, Found, rounds}
+use Rattle.rounds.specs.Demand.{Fixed, Refused, early, late, few, unnumbered, Found, rounds, remaining}
 use Rattle.rounds.specs.Demand as demand
-use Rattle.rounds.proofs.Found.{passed, demand-met}
+use Rattle.rounds.proofs.Found.{demand-met}
 
 minimum-le : (a : Altitude) → minimum a ≤ 4
 minimum-le None = omega arith
@@ -53,13 +52,12 @@ same-count c d e = cc
 
 module _ (P : Problem) (N : P .n ≤ 32) where
   module _ (x : Fix) (e : solveProblem P ≡ fix x) where
-    fixed : Fixed (rounds P) x
+    fixed : Fixed (rounds P) (remaining P) x
     fixed = demand-met P N .claim .fixed x .0 e
 
     pub fix-mask : x .mask < 2 ^ P .n
     fix-mask =
-        let p = passed (receptionsOf P) (P .«reference_ps») (fixed .used) (fixed .best) x (fixed .shown) in
-        subst (λ (m : ℕ). m < 2 ^ P .n) (sym (ap (λ (y : Fix). y .mask) (p .is))) (mask-lt (fixed .used) (P .n))
+        subst (λ (m : ℕ). m < 2 ^ P .n) (sym (ap (λ (y : Fix). y .mask) (fixed .shown .shows))) (mask-lt (fixed .used) (P .n))
 
     pub fix-dof : x .dof + 4 ≡ count (has (x .mask)) 32 + cond (hasAltitude (P .altitude)) 1 0
     fix-dof =
@@ -71,7 +69,7 @@ module _ (P : Problem) (N : P .n ≤ 32) where
   pub too-few : (c : ℕ) → solveProblem P ≡ refused (TooFew c) → c ≤ 3
   too-few c e = go (demand-met P N .claim .refusals (TooFew c) .0 e)
     where
-      go : Refused (rounds P) (TooFew c) → c ≤ 3
+      go : Refused (rounds P) (remaining P) (TooFew c) → c ≤ 3
       go (early S p t (few h q)) = let z : c ≡ count S (P .n) = same-count c (count S (P .n)) q in omega (arith, minimum-le (P .altitude))
       go (early S p t (demand.unfit u m b q)) = absurd (no-unfit c u q)
       go (early S p t (unnumbered f j m b k n q)) = absurd (let z : _≡_ {A = ℕ} 0 1 = cc in omega arith)

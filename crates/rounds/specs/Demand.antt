@@ -22,13 +22,14 @@ use Rattle.limits.specs.Heights.{minHeightM, maxHeightM}
 use Rattle.best.specs.Plausible.{maxRangeM, range}
 use Rattle.best.specs.Best.{fails, gives}
 use Rattle.best.specs.OfProblem.{receptionsOf, whitenerOver, chosenOver, startsOver}
-use Rattle.best.specs.Meaning.{NoRival}
+use Rattle.best.specs.Meaning.{IsBest}
 use Rattle.record.specs.declared.content.Fix.{Fix}
 use Rattle.rounds.specs.declared.answer.Refusal.{Refusal}
 use Rattle.rounds.specs.declared.answer.Refusal.the-variants.{TooFew, Singular}
 use Rattle.rounds.specs.declared.finish.Unpublished.{Unpublished}
 use Rattle.rounds.specs.Setting.{ofUnfit, ofUnpublished, Answer, fix, refused, noFixedPoint, Setting, five, kept, survivors}
 use Rattle.rounds.specs.Solve.{limitAt, normalised, dofOf, settingAt, solveProblem}
+use Rattle.rounds.specs.Later.{Published, Withheld}
 
 module _ {Q F X : Type 0} (P : Setting Q F X) where
   -- ---- a round over the set S of included receptions, after one that found the parameters p
@@ -85,32 +86,47 @@ module _ {Q F X : Type 0} (P : Setting Q F X) where
     pub most : changes ≤ 2 * survivors P + 1
     pub chain : Chain E q changes (kept P) none
 
+-- "the source's remaining steps", for a set over which the rounds settled and its best fit: what they show, and why not
+pub record Remaining (F X : Type 0) : Type 1 where
+  pub Shows : Subset → F → X → Type 0
+  pub Withholds : Subset → F → Unpublished → Type 0
+
+module _ {Q F X : Type 0} (P : Setting Q F X) (L : Remaining F X) where
   -- ---- the answer
   -- the rounds settle in time over `used`, at their best fit, and x is what the remaining steps show of both
   pub record Fixed (x : X) : Type 0 where
     pub used : Subset
     pub before : Option Q
-    pub inTime : InTime used before
+    pub inTime : InTime P used before
     pub best : F
-    pub settled : Settled used before best
-    pub shown : P .later used best ≡ gives x
+    pub settled : Settled P used before best
+    pub shown : L .Shows used best x
 
   -- in time, a refusal ends a round, or the rounds settle and one of the remaining steps refuses
   pub data Refused (e : Refusal) : Type 0 where
-    early : (S : Subset) (p : Option Q) → InTime S p → Ends S p e → Refused e
-    late : (S : Subset) (p : Option Q) (f : F) (u : Unpublished) → InTime S p → Settled S p f → P .later S f ≡ fails u → e ≡ ofUnpublished u → Refused e
+    early : (S : Subset) (p : Option Q) → InTime P S p → Ends P S p e → Refused e
+    late : (S : Subset) (p : Option Q) (f : F) (u : Unpublished) → InTime P S p → Settled P S p f → L .Withholds S f u → e ≡ ofUnpublished u → Refused e
 
   -- "Demand 3 is a single claim about the whole chain of rounds and its answer": each answer is given exactly when
   pub record Claim (a : Answer X) : Type 0 where
     pub fixed : (x : X) → (a ≡ fix x) ↔ Fixed x
     pub refusals : (e : Refusal) → (a ≡ refused e) ↔ Refused e
     -- "After 2s+2 changes the answer is 4, however few are then included."
-    pub unfixed : (a ≡ noFixedPoint) ↔ ((E : Subset) × (q : Option Q) × Chain E q (2 * survivors P + 2) (kept P) none)
+    pub unfixed : (a ≡ noFixedPoint) ↔ ((E : Subset) × (q : Option Q) × Chain P E q (2 * survivors P + 2) (kept P) none)
+
+-- each outcome of the setting's remaining steps is given exactly where this says so
+pub record Exactly {Q F X : Type 0} (P : Setting Q F X) (L : Remaining F X) : Type 0 where
+  pub shows : (S : Subset) (f : F) (x : X) → (P .later S f ≡ gives x) ↔ L .Shows S f x
+  pub withholds : (S : Subset) (f : F) (u : Unpublished) → (P .later S f ≡ fails u) ↔ L .Withholds S f u
 
 -- ---- what is found with every fix, stated of the values that its record shows
 module _ (P : Problem) where
   abbrev pub rounds : Setting (List Float) Fit Fix
   rounds = settingAt P
+
+  -- its remaining steps, by specs/Later.antt
+  abbrev pub remaining : Remaining Fit Fix
+  remaining = record { Shows = Published (receptionsOf P) (P .«reference_ps»); Withholds = Withheld (receptionsOf P) (P .«reference_ps») }
 
   -- the used receptions by the mask, and the parameters, which are the position and T
   abbrev pub usedBy : Fix → Subset
@@ -119,7 +135,7 @@ module _ (P : Problem) where
   abbrev pub paramsBy : Fix → List Float
   paramsBy x = nth (x .ecef) 0 ∷ nth (x .ecef) 1 ∷ nth (x .ecef) 2 ∷ x .t ∷ []
 
-  pub record Found (x : Fix) (h : Fixed rounds x) : Type 0 where
+  pub record Found (x : Fix) (h : Fixed rounds remaining x) : Type 0 where
     -- it uses exactly the receptions that were included when the rounds settled
     pub uses : usedBy x ≡ h .used
     pub usedKept : (j : ℕ) → T (usedBy x j) → T (kept rounds j)
@@ -142,14 +158,16 @@ module _ (P : Problem) where
     pub factor : List Float
     pub whitened : whitenerOver (receptionsOf P) (usedBy x) ≡ found factor
     pub consistent : T (not (lt (limitAt (chosenOver (receptionsOf P) (usedBy x) factor) (x .dof) (paramsBy x)) (x .chi2)))
-    -- the best fit is the one that the record shows, and among the fits from all starts of the last round there is no rival
-    pub best : (position (h .best .params) ≡ x .ecef) × (moment (h .best .params) ≡ x .t) × (h .best .cost ≡ x .chi2)
-    pub noRival : NoRival (chosenOver (receptionsOf P) (usedBy x) factor) (startsOver (receptionsOf P) (usedBy x) (h .before)) (h .best)
+    -- the best fit is the one that the record shows. Of the fits from all starts of the last round it leads: it converged
+    -- and is plausible, none that is costs less, each such one from an earlier start costs more; and none is its rival.
+    pub shows : (position (h .best .params) ≡ x .ecef) × (moment (h .best .params) ≡ x .t) × (h .best .cost ≡ x .chi2)
+    pub from : ℕ
+    pub best : IsBest (chosenOver (receptionsOf P) (usedBy x) factor) (startsOver (receptionsOf P) (usedBy x) (h .before)) (h .best) from
 
   -- demand 3, of the answer a
   pub record Demand (a : Answer Fix) : Type 0 where
-    pub claim : Claim rounds a
-    pub found : (x : Fix) (h : Fixed rounds x) → Found x h
+    pub claim : Claim rounds remaining a
+    pub found : (x : Fix) (h : Fixed rounds remaining x) → Found x h
 
 -- ---- what proofs/Found.antt proves: the definition's answer meets the demand, and no other answer does
 abbrev pub DemandMet : Type 0
@@ -157,3 +175,7 @@ DemandMet = (P : Problem) → P .n ≤ 32 → Demand P (solveProblem P)
 
 abbrev pub OneAnswer : Type 0
 OneAnswer = (P : Problem) (a : Answer Fix) → Demand P a → a ≡ solveProblem P
+
+-- "the source's remaining steps" come to each of their outcomes exactly where specs/Later.antt says so
+abbrev pub LaterExactly : Type 0
+LaterExactly = (P : Problem) → Exactly (rounds P) (remaining P)

@@ -3,6 +3,7 @@ pub mod Finish
 pub mod Rounds
 pub mod Looked
 pub mod Solve
+pub mod Later
 pub mod Demand
 pub mod Mirrored
 pub mod Unmoved

@@ -15,7 +15,7 @@ use Rattle.problem.specs.declared.Problem.{Problem}
 use Rattle.record.specs.declared.content.Fix.{Fix}
 use Rattle.rounds.specs.Setting.{fix, kept}
 use Rattle.rounds.specs.Solve.{solveProblem}
-use Rattle.rounds.specs.Demand.{Fixed, rounds, usedBy, Found}
+use Rattle.rounds.specs.Demand.{Fixed, rounds, remaining, usedBy, Found}
 use Rattle.rounds.proofs.Found.{demand-met}
 use Rattle.why.specs.declared.State.{State}
 use Rattle.why.specs.declared.State.the-variants.{Used, Removed, LeftOut}
@@ -33,7 +33,7 @@ module _ (P : Problem) (N : P .n ≤ 32) (x : Fix) (solved : solveProblem P ≡ 
   abbrev clash : ℕ
   clash = clashOf (P .n) (clashing P) j
 
-  settled : Fixed (rounds P) x
+  settled : Fixed (rounds P) (remaining P) x
   settled = demand-met P N .claim .fixed x .0 solved
 
   found : Found P x settled
