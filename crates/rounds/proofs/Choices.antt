@@ -3,13 +3,13 @@ use mathlib.Core.Logic.{_⊎_, inl, inr}
 use mathlib.Core.Option.{Option, none, some}
 use mathlib.Core.Bool.{Bool, not, _&&_}
 use Prim.Native.Nat.{ℕ, _<_}
+use native.Mathlib.Omega.{arith}
 use lib.Dec.{T, T-not, not-T}
 use lib.Ieee.{Float, lt, le, isNan, ofBits}
 use Rattle.sets.specs.Sets.{Subset}
 use Rattle.sets.specs.Choice.{FirstBest, IsChoice, Ranks}
 use Rattle.sets.proofs.Tests.{either, and-l, and-r, and-both}
 use Rattle.sets.proofs.Choosing.{choose-is}
-use Rattle.screen.proofs.Removal.{kept-below}
 use Rattle.rounds.specs.Setting.{Setting, five, kept}
 use Rattle.rounds.specs.Rounds.{above, greater, worst, near, less, least}
 use Rattle.rounds.specs.Demand.{Worst, NoneAbove, leftOut, Least}
@@ -48,9 +48,6 @@ ranks-less K S z = record {
 }
 
 module _ {Q F X : Type 0} (P : Setting Q F X) where
-  pub below : (j : ℕ) → T (kept P j) → j < P .n
-  below = kept-below (P .n) (P .fails)
-
   -- a left-out reception is kept
   pub out-kept : (S : Subset) (j : ℕ) → T (leftOut P S j) → T (kept P j)
   out-kept S j t = and-l (kept P j) (not (S j)) t
@@ -66,7 +63,7 @@ module _ {Q F X : Type 0} (P : Setting Q F X) where
   Within S = (j : ℕ) → T (S j) → T (kept P j)
 
   abbrev pub Numbers : F → Type 0
-  Numbers f = (j : ℕ) → T (kept P j) → T (not (isNan (P .residual f j)))
+  Numbers f = (j : ℕ) → j < P .n → T (kept P j) → T (not (isNan (P .residual f j)))
 
   abbrev pub IsWorst : Subset → F → Option ℕ → Type 0
   IsWorst S f o = IsChoice (above S (P .residual f)) (greater (P .residual f)) (P .n) o
@@ -86,17 +83,17 @@ module _ {Q F X : Type 0} (P : Setting Q F X) where
     abbrev z : ℕ → Float
     z = P .residual f
 
-    at-most : (j : ℕ) → T (kept P j) → T (not (lt five (z j))) → T (le (z j) five)
-    at-most j k h = le-of-not-lt five (z j) five-number (N j k) h
+    at-most : (j : ℕ) → j < P .n → T (kept P j) → T (not (lt five (z j))) → T (le (z j) five)
+    at-most j l k h = le-of-not-lt five (z j) five-number (N j l k) h
 
-    more : (j : ℕ) → T (kept P j) → T (not (le (z j) five)) → T (lt five (z j))
-    more j k h = lt-of-not-le five (z j) five-number (N j k) h
+    more : (j : ℕ) → j < P .n → T (kept P j) → T (not (le (z j) five)) → T (lt five (z j))
+    more j l k h = lt-of-not-le five (z j) five-number (N j l k) h
 
     pub worst-none : IsWorst S f none → NoneAbove P S f
-    worst-none h j t = at-most j (W j t) (not-T (lt five (z j)) (λ u. T-not (above S z j) (h j (below j (W j t))) (of-above S z j t u)))
+    worst-none h j l t = at-most j l (W j t) (not-T (lt five (z j)) (λ u. T-not (above S z j) (h j l) (of-above S z j t u)))
 
     pub none-worst : NoneAbove P S f → IsWorst S f none
-    none-worst h j l = not-T (above S z j) (λ t. let a = above-of S z j t in le-lt five (z j) (h j (a .0)) (a .1))
+    none-worst h j l = not-T (above S z j) (λ t. let a = above-of S z j t in le-lt five (z j) (h j l (a .0)) (a .1))
 
     pub worst-some : (i : ℕ) → IsWorst S f (some i) → Worst P S f i
     worst-some i h = (
@@ -112,25 +109,28 @@ module _ {Q F X : Type 0} (P : Setting Q F X) where
         a : T (S i) × T (lt five (z i))
         a = above-of S z i (h .candidate)
 
+        before : (j : ℕ) → j < i → j < P .n
+        before j l = omega (arith, h .below)
+
         low : (j : ℕ) → j < i → T (S j) → T (lt five (z j)) ⊎ T (not (lt five (z j))) → T (lt (z j) (z i))
         low j l t (inl u) = h .lowest j l (of-above S z j t u)
-        low j l t (inr u) = elim (lt-split five (z j) (z i) (N j (W j t)) (a .1)) [ inl v ↦ absurd (T-not (lt five (z j)) u v) | inr v ↦ v ]
+        low j l t (inr u) = elim (lt-split five (z j) (z i) (N j (before j l) (W j t)) (a .1)) [ inl v ↦ absurd (T-not (lt five (z j)) u v) | inr v ↦ v ]
 
     pub some-worst : (i : ℕ) → Worst P S f i → IsWorst S f (some i)
     some-worst i w = first-of-fewer S (above S z) (greater z) (P .n) i (λ j t. above-of S z j t .0) (of-above S z i (w .0 .candidate) (w .1)) (w .0)
 
-    pub least-none : IsLeast S f none → (j : ℕ) → T (leftOut P S j) → T (lt five (z j))
-    least-none h j o = let k = out-kept S j o in more j k (not-T (le (z j) five) (λ u. T-not (near (kept P) S z j) (h j (below j k)) (of-near S z j o u)))
+    pub least-none : IsLeast S f none → (j : ℕ) → j < P .n → T (leftOut P S j) → T (lt five (z j))
+    least-none h j l o = more j l (out-kept S j o) (not-T (le (z j) five) (λ u. T-not (near (kept P) S z j) (h j l) (of-near S z j o u)))
 
-    pub none-least : ((j : ℕ) → T (leftOut P S j) → T (lt five (z j))) → IsLeast S f none
-    none-least h j l = not-T (near (kept P) S z j) (λ t. let a = near-of S z j t in le-lt five (z j) (a .1) (h j (a .0)))
+    pub none-least : ((j : ℕ) → j < P .n → T (leftOut P S j) → T (lt five (z j))) → IsLeast S f none
+    none-least h j l = not-T (near (kept P) S z j) (λ t. let a = near-of S z j t in le-lt five (z j) (a .1) (h j l (a .0)))
 
     pub least-some : (i : ℕ) → IsLeast S f (some i) → Least P S f i
     least-some i h = (
       record {
         below = h .below;
         candidate = a .0;
-        unbeaten = λ j l o. not-T (lt (z j) (z i)) (λ u. T-not (less z j i) (h .unbeaten j l (of-near S z j o (at-most j (out-kept S j o) (lower j u)))) u);
+        unbeaten = λ j l o. not-T (lt (z j) (z i)) (λ u. T-not (less z j i) (h .unbeaten j l (of-near S z j o (at-most j l (out-kept S j o) (lower j u)))) u);
         lowest = λ j l o. low j l o (either (le (z j) five));
       },
       a .1,
@@ -139,12 +139,15 @@ module _ {Q F X : Type 0} (P : Setting Q F X) where
         a : T (leftOut P S i) × T (le (z i) five)
         a = near-of S z i (h .candidate)
 
+        before : (j : ℕ) → j < i → j < P .n
+        before j l = omega (arith, h .below)
+
         lower : (j : ℕ) → T (lt (z j) (z i)) → T (not (lt five (z j)))
         lower j u = not-T (lt five (z j)) (λ v. le-lt five (z i) (a .1) (lt-trans five (z j) (z i) v u))
 
         low : (j : ℕ) → j < i → T (leftOut P S j) → T (le (z j) five) ⊎ T (not (le (z j) five)) → T (lt (z i) (z j))
         low j l o (inl u) = h .lowest j l (of-near S z j o u)
-        low j l o (inr u) = elim (lt-split five (z i) (z j) (N i (out-kept S i (a .0))) (more j (out-kept S j o) u)) [ inl v ↦ absurd (le-lt five (z i) (a .1) v) | inr v ↦ v ]
+        low j l o (inr u) = elim (lt-split five (z i) (z j) (N i (h .below) (out-kept S i (a .0))) (more j (before j l) (out-kept S j o) u)) [ inl v ↦ absurd (le-lt five (z i) (a .1) v) | inr v ↦ v ]
 
     pub some-least : (i : ℕ) → Least P S f i → IsLeast S f (some i)
     some-least i w = first-of-fewer (leftOut P S) (near (kept P) S z) (less z) (P .n) i (λ j t. near-of S z j t .0) (of-near S z i (w .0 .candidate) (w .1)) (w .0)

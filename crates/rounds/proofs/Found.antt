@@ -91,8 +91,11 @@ module _ (P : Problem) (N : P .n ≤ 32) (x : Fix) (h : Fixed (rounds P) (remain
   within : (j : ℕ) → T (S j) → T (kept (rounds P) j)
   within = chain-within (rounds P) (h .inTime .chain) (all-kept (rounds P))
 
+  kept-n : (j : ℕ) → T (kept (rounds P) j) → j < P .n
+  kept-n = kept-below (P .n) (pair.fails (P .time) (P .«site_mm») (P .n))
+
   below-n : (j : ℕ) → T (S j) → j < P .n
-  below-n j t = kept-below (P .n) (pair.fails (P .time) (P .«site_mm») (P .n)) j (within j t)
+  below-n j t = kept-n j (within j t)
 
   uses : usedBy P x ≡ S
   uses = shown (λ y. has (y .mask)) ∙ set-of-mask S (P .n) below-n
@@ -140,8 +143,8 @@ module _ (P : Problem) (N : P .n ≤ 32) (x : Fix) (h : Fixed (rounds P) (remain
     usedKept = λ j t. within j (in-used j t);
     enough = subst (λ (A : Subset). minimum (P .altitude) ≤ count A (P .n)) (sym uses) (h .settled .fitted .enough);
     screened = λ i j s t. kept-pass (P .time) (P .«site_mm») (P .n) i j s t;
-    within = λ j t. subst (λ (r : Float). T (le r five)) (sym (residual-is j)) (h .settled .noneAbove j (in-used j t));
-    beyond = λ j k t. subst (λ (r : Float). T (lt five r)) (sym (residual-is j)) (h .settled .unused j (and-both (kept (rounds P) j) (not (S j)) k (subst (λ (A : Subset). T (not (A j))) uses t)));
+    within = λ j t. subst (λ (r : Float). T (le r five)) (sym (residual-is j)) (h .settled .noneAbove j (below-n j (in-used j t)) (in-used j t));
+    beyond = λ j k t. subst (λ (r : Float). T (lt five r)) (sym (residual-is j)) (h .settled .unused j (kept-n j k) (and-both (kept (rounds P) j) (not (S j)) k (subst (λ (A : Subset). T (not (A j))) uses t)));
     near = λ j t. subst (λ (p : List Float). T (le (range (P .site) p j) maxRangeM)) (sym ecef-is) (is-best .near j (below-n j (in-used j t)) (in-used j t));
     placed = shown (λ y. y .position) ∙ ap fromEcef (sym ecef-is);
     height = subst (λ (q : Float). T (le minHeightM q) × T (le q maxHeightM)) (sym height-is) (flies .above, flies .below);

@@ -12,7 +12,6 @@ use Rattle.binary64.specs.Steps.{nought}
 use Rattle.sets.specs.Sets.{Subset, count}
 use Rattle.sets.specs.Mask.{has}
 use Rattle.sets.proofs.Masks.{count-within}
-use Rattle.screen.specs.Pair.{fails}
 use Rattle.problem.specs.declared.Problem.{Problem}
 use Rattle.damped.specs.declared.Fit.{Fit}
 use Rattle.best.specs.OfProblem.{Receptions, receptionsOf}
@@ -23,14 +22,14 @@ use Rattle.rounds.specs.declared.outliers.Turn.{Turn}
 use Rattle.rounds.specs.declared.outliers.Turn.the-variants.{Ends, Changes, Settles}
 use Rattle.rounds.specs.Setting.{refused, noFixedPoint, Setting, kept, survivors}
 use Rattle.rounds.specs.Rounds.{Step, ends, changes, settles, closed, round, after, roundsTo, solved}
-use Rattle.rounds.specs.Solve.{settingOf, solveProblem, before, stepOf}
+use Rattle.rounds.specs.Solve.{keptAt, settingOf, solveProblem, before, stepOf}
 use Rattle.rounds.proofs.Choices.{Within}
 use Rattle.rounds.proofs.Steps.{Says, round-says}
 use Rattle.rounds.proofs.Chains.{change-within}
 
-module _ (R : Receptions) (bad : ℕ → ℕ → Bool) (reference : ℤ) (N : R .n ≤ 32) where
+module _ (R : Receptions) (mask : ℕ) (reference : ℤ) (N : R .n ≤ 32) where
   abbrev P : Setting (List Float) Fit Fix
-  P = settingOf R bad reference
+  P = settingOf R (has mask) reference
 
   -- what is left after the rounds so far: the included receptions are kept ones, and so many rounds more give the answer
   pub record Left (j : ℕ) (s : State) : Type 0 where
@@ -43,12 +42,12 @@ module _ (R : Receptions) (bad : ℕ → ℕ → Bool) (reference : ℤ) (N : R 
     keeps = subst (Within P) (sym e) w;
   }
 
-  pub left-start : (s : State) (mask c : ℕ) → s ≡ record { included = mask; had = false; previous = replicate 4 nought } → has mask ≡ kept P → mask < 2 ^ R .n → c ≡ count (has mask) 32 → Left (2 * c + 2 - 0) s
+  pub left-start : (s : State) (c : ℕ) → s ≡ record { included = mask; had = false; previous = replicate 4 nought } → mask < 2 ^ R .n → c ≡ count (has mask) 32 → Left (2 * c + 2 - 0) s
   unfolding solved
-  left-start s mask c i e m h =
-      let t : count (kept P) (R .n) ≡ c = ap (λ (S : Subset). count S (R .n)) (sym e) ∙ sym (count-within (R .n) mask m N) ∙ sym h in
+  left-start s c i m h =
+      let t : count (kept P) (R .n) ≡ c = sym (count-within (R .n) mask m N) ∙ sym h in
       let d : 2 * survivors P + 2 ≡ 2 * c + 2 - 0 = omega (arith, t) in
-      left (2 * c + 2 - 0) (kept P) none s (ap (λ (x : State). has (x .included)) i ∙ e) (ap before i) (ap (λ (j : ℕ). roundsTo P j (kept P) none) d) (λ j t. t)
+      left (2 * c + 2 - 0) (kept P) none s (ap (λ (x : State). has (x .included)) i) (ap before i) (ap (λ (j : ℕ). roundsTo P j (kept P) none) d) (λ j t. t)
 
   -- ---- one round more
   module _ (k cap : ℕ) (s : State) (t : Turn) (f : Fit) (E : stepOf t f ≡ round P (has (s .included)) (before s)) (K : k < cap) (I : Left (cap - k) s) where
@@ -77,7 +76,9 @@ module _ (R : Receptions) (bad : ℕ → ℕ → Bool) (reference : ℤ) (N : R 
   unfolding roundsTo
   left-never k cap s l i = sym (i .answers ∙ ap (λ (j : ℕ). roundsTo P j (has (s .included)) (before s)) (let d : cap - k ≡ 0 = omega arith in d))
 
--- the problem's setting, by its reference
-pub of-problem : (P : Problem) (reference : ℤ) → reference ≡ P .«reference_ps» → solved (settingOf (receptionsOf P) (fails (P .time) (P .«site_mm») (P .n)) reference) ≡ solveProblem P
+-- the problem's setting, by what is kept and its reference
+pub of-problem
+    : (P : Problem) (kept : Subset) (reference : ℤ) → kept ≡ keptAt (P .time) (P .«site_mm») (P .n) → reference ≡ P .«reference_ps»
+    → solved (settingOf (receptionsOf P) kept reference) ≡ solveProblem P
 unfolding solveProblem
-of-problem P reference e = ap (λ (r : ℤ). solved (settingOf (receptionsOf P) (fails (P .time) (P .«site_mm») (P .n)) r)) e
+of-problem P kept reference k e = ap₂ (λ (K : Subset) (r : ℤ). solved (settingOf (receptionsOf P) K r)) k e

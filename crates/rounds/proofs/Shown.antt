@@ -72,5 +72,5 @@ module _ (P : Problem) (N : P .n ≤ 32) where
       go : Refused (rounds P) (remaining P) (TooFew c) → c ≤ 3
       go (early S p t (few h q)) = let z : c ≡ count S (P .n) = same-count c (count S (P .n)) q in omega (arith, minimum-le (P .altitude))
       go (early S p t (demand.unfit u m b q)) = absurd (no-unfit c u q)
-      go (early S p t (unnumbered f j m b k n q)) = absurd (let z : _≡_ {A = ℕ} 0 1 = cc in omega arith)
+      go (early S p t (unnumbered f j l m b k n q)) = absurd (let z : _≡_ {A = ℕ} 0 1 = cc in omega arith)
       go (late S p f u t s l q) = absurd (no-unpublished c u q)

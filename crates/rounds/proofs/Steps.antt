@@ -3,7 +3,7 @@ use mathlib.Core.Path.{_≡_, refl, sym, ap, ap₂, _∙_}
 use mathlib.Core.Logic.{_⊎_, _≢_, _↔_}
 use mathlib.Core.Option.{Option, none, some}
 use mathlib.Core.Bool.{Bool, true, false, not}
-use Prim.Native.Nat.{ℕ, _≤_}
+use Prim.Native.Nat.{ℕ, _≤_, _<_}
 use lib.Dec.{T, T-not, not-T, ltb, ltb→lt, lt→ltb, nltb→le}
 use lib.Arith.{le→nltb}
 use lib.Ieee.{isNan}
@@ -18,7 +18,7 @@ use Rattle.rounds.specs.Setting.{Setting, kept}
 use Rattle.rounds.specs.Rounds.{Step, ends, changes, settles, above, greater, worst, near, less, least, noNumber, turned, decided, begun, round}
 use Rattle.rounds.specs.Rounds as rounds
 use Rattle.rounds.specs.Demand.{Fitted, Change, removal, return, Settled, Ends, few, unfit, unnumbered}
-use Rattle.rounds.proofs.Choices.{below, Within, Numbers, IsWorst, IsLeast, worst-is, least-is, worst-none, none-worst, worst-some, some-worst, least-none, none-least, least-some, some-least}
+use Rattle.rounds.proofs.Choices.{Within, Numbers, IsWorst, IsLeast, worst-is, least-is, worst-none, none-worst, worst-some, some-worst, least-none, none-least, least-some, some-least}
 
 -- two sets that are alike to a third
 alike : (S S′ : Subset) (A : ℕ → Type 0) → ((j : ℕ) → T (S j) ↔ A j) → ((j : ℕ) → T (S′ j) ↔ A j) → S ≡ S′
@@ -35,24 +35,24 @@ module _ {Q F X : Type 0} (P : Setting Q F X) where
   abbrev lacks : F → Bool
   lacks f = rounds.unnumbered (kept P) (P .residual f) (P .n)
 
-  lacks-some : (f : F) → T (lacks f) → (j : ℕ) × T (kept P j) × T (isNan (P .residual f j))
+  lacks-some : (f : F) → T (lacks f) → (j : ℕ) × (j < P .n) × T (kept P j) × T (isNan (P .residual f j))
   lacks-some f t =
       let s = count-some (noNumber (kept P) (P .residual f)) (P .n) (ltb→lt 0 (count (noNumber (kept P) (P .residual f)) (P .n)) t) in
-      (s .0, and-l (kept P (s .0)) (isNan (P .residual f (s .0))) (s .2), and-r (kept P (s .0)) (isNan (P .residual f (s .0))) (s .2))
+      (s .0, s .1, and-l (kept P (s .0)) (isNan (P .residual f (s .0))) (s .2), and-r (kept P (s .0)) (isNan (P .residual f (s .0))) (s .2))
 
-  some-lacks : (f : F) (j : ℕ) → T (kept P j) → T (isNan (P .residual f j)) → T (lacks f)
-  some-lacks f j k t = lt→ltb 0 (count (noNumber (kept P) (P .residual f)) (P .n)) (count-pos (noNumber (kept P) (P .residual f)) (P .n) j (below P j k) (and-both (kept P j) (isNan (P .residual f j)) k t))
+  some-lacks : (f : F) (j : ℕ) → j < P .n → T (kept P j) → T (isNan (P .residual f j)) → T (lacks f)
+  some-lacks f j l k t = lt→ltb 0 (count (noNumber (kept P) (P .residual f)) (P .n)) (count-pos (noNumber (kept P) (P .residual f)) (P .n) j l (and-both (kept P j) (isNan (P .residual f j)) k t))
 
   all-numbers : (f : F) → T (not (lacks f)) → Numbers P f
-  all-numbers f h j k = not-T (isNan (P .residual f j)) (λ t. T-not (lacks f) h (some-lacks f j k t))
+  all-numbers f h j l k = not-T (isNan (P .residual f j)) (λ t. T-not (lacks f) h (some-lacks f j l k t))
 
   numbers-all : (f : F) → Numbers P f → T (not (lacks f))
-  numbers-all f h = not-T (lacks f) (λ t. let s = lacks-some f t in T-not (isNan (P .residual f (s .0))) (h (s .0) (s .1)) (s .2))
+  numbers-all f h = not-T (lacks f) (λ t. let s = lacks-some f t in T-not (isNan (P .residual f (s .0))) (h (s .0) (s .1) (s .2)) (s .3))
 
   -- ---- the computation's round is one of demand 3
   module _ (S : Subset) (p : Option Q) (W : Within P S) where
     turned-says : (f : F) → P .minimum ≤ count S (P .n) → P .bestFit S p ≡ gives f → (b : Bool) → lacks f ≡ b → (w : Option ℕ) → IsWorst P S f w → (l : Option ℕ) → IsLeast P S f l → Says S p (turned S f b w l)
-    turned-says f m e true u w ww l ll = let s = lacks-some f (eq→T u) in unnumbered f (s .0) m e (s .1) (s .2) refl
+    turned-says f m e true u w ww l ll = let s = lacks-some f (eq→T u) in unnumbered f (s .0) (s .1) m e (s .2) (s .3) refl
     turned-says f m e false u (some i) ww l ll =
         let N = all-numbers f (eq→F u) in
         removal i (record { enough = m; best = e; numbers = N }) (worst-some P S f W N i ww) (in-without S i)
@@ -102,7 +102,7 @@ module _ {Q F X : Type 0} (P : Setting Q F X) where
       says-round (ends e) (few h q) =
           ap (λ (b : Bool). begun P S b (P .bestFit S p)) (T→eq (ltb (count S (P .n)) (P .minimum)) (lt→ltb (count S (P .n)) (P .minimum) h)) ∙ ap ends (sym q)
       says-round (ends e) (unfit u m h q) = begun-enough (fails u) m h ∙ ap ends (sym q)
-      says-round (ends e) (unnumbered f j m h k t q) = begun-turned f m h true (T→eq (lacks f) (some-lacks f j k t)) _ _ refl refl ∙ ap ends (sym q)
+      says-round (ends e) (unnumbered f j l m h k t q) = begun-turned f m h true (T→eq (lacks f) (some-lacks f j l k t)) _ _ refl refl ∙ ap ends (sym q)
       says-round (changes R f) (removal i h w g) =
           fitted-turned f h (some i) (least (kept P) S (P .residual f) (P .n)) (some-worst P S f W (h .numbers) i w) refl
           ∙ ap (λ (A : Subset). changes A f) (alike (without S i) R (λ j. T (S j) × (j ≢ i)) (in-without S i) g)

@@ -11,7 +11,6 @@ use Rattle.dense.specs.Entries.{nth}
 use Rattle.sets.specs.Sets.{Subset, count}
 use Rattle.sets.specs.Mask.{has}
 use Rattle.sets.proofs.Masks.{count-within}
-use Rattle.screen.specs.Screen as screen
 use Rattle.problem.specs.Problem.{minimum}
 use Rattle.damped.specs.declared.Fit.{Fit}
 use Rattle.best.specs.declared.Unfit.{Unfit}
@@ -34,9 +33,9 @@ told-as : (o : Outcome Unfit Fit) → told (asBest o) ≡ o
 told-as (fails e) = refl
 told-as (gives f) = refl
 
-module _ (R : Receptions) (bad : ℕ → ℕ → Bool) (reference : ℤ) (N : R .n ≤ 32) (mask : ℕ) (M : mask < 2 ^ R .n) (p : Option (List Float)) (c : ℕ) (C : c ≡ count (has mask) 32) where
+module _ (R : Receptions) (K : ℕ) (reference : ℤ) (N : R .n ≤ 32) (mask : ℕ) (M : mask < 2 ^ R .n) (p : Option (List Float)) (c : ℕ) (C : c ≡ count (has mask) 32) where
   abbrev P : Setting (List Float) Fit Fix
-  P = settingOf R bad reference
+  P = settingOf R (has K) reference
 
   counted : c ≡ count (has mask) (R .n)
   counted = C ∙ count-within (R .n) mask M N
@@ -58,8 +57,8 @@ module _ (R : Receptions) (bad : ℕ → ℕ → Bool) (reference : ℤ) (N : R 
     pub round-unfit : b .found ≡ false → ends (ofUnfit (b .why)) ≡ round P (has mask) p
     round-unfit e = enough h (fails (b .why)) (met false e)
 
-    pub round-fitted : b .found ≡ true → (K : ℕ) → has K ≡ screen.kept (R .n) bad → (z : List Float) → ((j : ℕ) → j < R .n → nth z j ≡ normalised R (b .fit .params) j)
+    pub round-fitted : b .found ≡ true → (z : List Float) → ((j : ℕ) → j < R .n → nth z j ≡ normalised R (b .fit .params) j)
         → (t : Turn) → stepOf t (b .fit) ≡ decided (has K) (has mask) (nth z) (R .n) (b .fit) → stepOf t (b .fit) ≡ round P (has mask) p
-    round-fitted e K k z Z t u =
+    round-fitted e z Z t u =
         let f : Fit = b .fit in
-        u ∙ ap (λ (A : Subset). decided A (has mask) (nth z) (R .n) f) k ∙ decided-same (kept P) (has mask) (nth z) (P .residual f) (R .n) f (λ j l s. Z j l) ∙ enough h (gives f) (met true e)
+        u ∙ decided-same (kept P) (has mask) (nth z) (P .residual f) (R .n) f (λ j l s. Z j l) ∙ enough h (gives f) (met true e)

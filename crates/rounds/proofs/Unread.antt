@@ -16,8 +16,6 @@ use Rattle.dense.specs.Entries.{nth, at}
 use Rattle.dense.specs.Factor.{Factor, found, refused}
 use Rattle.sets.specs.Sets.{Subset, count}
 use Rattle.sets.specs.Mask.{maskOf}
-use Rattle.screen.specs.Pair as pair
-use Rattle.screen.specs.Screen as screen
 use Rattle.problem.specs.declared.Altitude.{Altitude}
 use Rattle.problem.specs.declared.Problem.{Problem}
 use Rattle.problem.specs.Problem.{moment}
@@ -34,7 +32,7 @@ use Rattle.rounds.specs.declared.finish.Unpublished.the-variants as unpu
 use Rattle.rounds.specs.Setting.{Answer, Setting, kept, survivors}
 use Rattle.rounds.specs.Rounds.{Step, ends, changes, settles, closed, begun, round, after, roundsTo, solved}
 use Rattle.rounds.specs.Finish.{finish}
-use Rattle.rounds.specs.Solve.{limitAt, normalised, dofOf, tested, later, settingOf, solveProblem}
+use Rattle.rounds.specs.Solve.{limitAt, normalised, dofOf, tested, later, keptAt, settingOf, solveProblem}
 use Rattle.rounds.specs.Unmoved.{RemovedUnread}
 use Rattle.rounds.proofs.Choices.{Within}
 use Rattle.rounds.proofs.Steps.{Says, round-says}
@@ -43,22 +41,22 @@ use Rattle.rounds.proofs.Searches.{decided-same}
 use Rattle.rounds.proofs.Members.{z-same, factor-same}
 
 -- ---- two settings whose fits, residuals and later steps are equal over sets of kept receptions
-module _ {Q F X : Type 0} (n : ℕ) (bad : ℕ → ℕ → Bool) (least : ℕ) (params : F → Q)
+module _ {Q F X : Type 0} (n : ℕ) (K : Subset) (least : ℕ) (params : F → Q)
     (b b′ : Subset → Option Q → Outcome Unfit F) (r r′ : F → ℕ → Float) (l l′ : Subset → F → Outcome Unpublished X) where
   abbrev one : Setting Q F X
-  one = record { n = n; fails = bad; minimum = least; bestFit = b; params = params; residual = r; later = l }
+  one = record { n = n; kept = K; minimum = least; bestFit = b; params = params; residual = r; later = l }
 
   abbrev other : Setting Q F X
-  other = record { n = n; fails = bad; minimum = least; bestFit = b′; params = params; residual = r′; later = l′ }
+  other = record { n = n; kept = K; minimum = least; bestFit = b′; params = params; residual = r′; later = l′ }
 
-  module _ (B : (S : Subset) (p : Option Q) → Within one S → b S p ≡ b′ S p) (R : (f : F) (j : ℕ) → T (screen.kept n bad j) → r f j ≡ r′ f j)
+  module _ (B : (S : Subset) (p : Option Q) → Within one S → b S p ≡ b′ S p) (R : (f : F) (j : ℕ) → T (K j) → r f j ≡ r′ f j)
       (L : (S : Subset) (f : F) → Within one S → l S f ≡ l′ S f) where
     begun-same : (S : Subset) → Within one S → (t : Bool) (o : Outcome Unfit F) → begun one S t o ≡ begun other S t o
     begun-same S W true o = refl
     begun-same S W false (fails e) = refl
-    begun-same S W false (gives f) = decided-same (screen.kept n bad) S (r f) (r′ f) n f (λ j h s. R f j (in-kept j s))
+    begun-same S W false (gives f) = decided-same K S (r f) (r′ f) n f (λ j h s. R f j (in-kept j s))
       where
-        in-kept : (j : ℕ) → T (screen.kept n bad j) ⊎ T (S j) → T (screen.kept n bad j)
+        in-kept : (j : ℕ) → T (K j) ⊎ T (S j) → T (K j)
         in-kept j (inl t) = t
         in-kept j (inr t) = W j t
 
@@ -83,10 +81,7 @@ module _ {Q F X : Type 0} (n : ℕ) (bad : ℕ → ℕ → Bool) (least : ℕ) (
     solved-same = rounds-same (2 * survivors one + 2) (kept one) none (all-kept one)
 
 -- ---- two problems that differ in z, noise and clock entries alone
-module _ (site : List Float) (z y x w c d : List Float) (n : ℕ) (N : n ≤ 32) (altitude : Altitude) (bad : ℕ → ℕ → Bool) (reference : ℤ) where
-  abbrev K : Subset
-  K = screen.kept n bad
-
+module _ (site : List Float) (z y x w c d : List Float) (n : ℕ) (N : n ≤ 32) (altitude : Altitude) (K : Subset) (reference : ℤ) where
   abbrev A : Receptions
   A = receptions site z x c n altitude
 
@@ -127,8 +122,8 @@ module _ (site : List Float) (z y x w c d : List Float) (n : ℕ) (N : n ≤ 32)
     unfolding normalised residual sigma
     residual-same p i t = ap₂ (λ (v s : Float). abs (v ⊖ moment p ⊖ rangeAt site p i) ⊘ root s) (Z i t) (ap₂ _⊕_ (C i i (omega arith) t t) (X i t))
 
-    pub unread : solved (settingOf A bad reference) ≡ solved (settingOf B bad reference)
-    unread = solved-same n bad (settingOf A bad reference .minimum) (λ fit. fit .params) (λ S p. bestFitOver A S p) (λ S p. bestFitOver B S p)
+    pub unread : solved (settingOf A K reference) ≡ solved (settingOf B K reference)
+    unread = solved-same n K (settingOf A K reference .minimum) (λ fit. fit .params) (λ S p. bestFitOver A S p) (λ S p. bestFitOver B S p)
         (λ fit i. normalised A (fit .params) i) (λ fit i. normalised B (fit .params) i)
         (λ S fit. later A reference S fit) (λ S fit. later B reference S fit)
         (λ S p W. best-same S W p) (λ f j t. residual-same (f .params) j t) (λ S f W. later-same S W f)
@@ -137,13 +132,13 @@ module _ (site : List Float) (z y x w c d : List Float) (n : ℕ) (N : n ≤ 32)
 -- the answer by z, noise and clock entries of Q, and the rest as given
 abbrev solvedAs : Problem → ℕ → List ℤ → List ℤ → List Float → Altitude → ℤ → Answer Fix
 solvedAs Q n time mm site altitude reference =
-    solved (settingOf (receptions site (Q .z) (Q .«noise_m2») (Q .«clock_m2») n altitude) (pair.fails time mm n) reference)
+    solved (settingOf (receptions site (Q .z) (Q .«noise_m2») (Q .«clock_m2») n altitude) (keptAt time mm n) reference)
 
 pub removed-unread : RemovedUnread
 unfolding solveProblem
 removed-unread P Q N a =
     unread (P .site) (P .z) (Q .z) (P .«noise_m2») (Q .«noise_m2») (P .«clock_m2») (Q .«clock_m2») (P .n) N (P .altitude)
-    (pair.fails (P .time) (P .«site_mm») (P .n)) (P .«reference_ps») (a .z) (a .noise) (a .clock)
+    (keptAt (P .time) (P .«site_mm») (P .n)) (P .«reference_ps») (a .z) (a .noise) (a .clock)
     ∙ ap₂ (λ (n : ℕ) (t : List ℤ). solvedAs Q n t (P .«site_mm») (P .site) (P .altitude) (P .«reference_ps»)) (a .n) (a .time)
     ∙ ap₂ (λ (m : List ℤ) (s : List Float). solvedAs Q (Q .n) (Q .time) m s (P .altitude) (P .«reference_ps»)) (a .«site_mm») (a .site)
     ∙ ap₂ (solvedAs Q (Q .n) (Q .time) (Q .«site_mm») (Q .site)) (a .altitude) (a .«reference_ps»)

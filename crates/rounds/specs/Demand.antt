@@ -37,7 +37,7 @@ module _ {Q F X : Type 0} (P : Setting Q F X) where
   pub record Fitted (S : Subset) (p : Option Q) (f : F) : Type 0 where
     pub enough : P .minimum ≤ count S (P .n)
     pub best : P .bestFit S p ≡ gives f
-    pub numbers : (j : ℕ) → T (kept P j) → T (not (isNan (P .residual f j)))
+    pub numbers : (j : ℕ) → j < P .n → T (kept P j) → T (not (isNan (P .residual f j)))
 
   -- i is the worst included one, and above 5: no other is greater, and each before it is less. "Ties go to the lowest index."
   abbrev pub Worst : Subset → F → ℕ → Type 0
@@ -45,7 +45,7 @@ module _ {Q F X : Type 0} (P : Setting Q F X) where
 
   -- no included one is above 5
   abbrev pub NoneAbove : Subset → F → Type 0
-  NoneAbove S f = (j : ℕ) → T (S j) → T (le (P .residual f j) five)
+  NoneAbove S f = (j : ℕ) → j < P .n → T (S j) → T (le (P .residual f j) five)
 
   -- kept, but left out
   abbrev pub leftOut : Subset → Subset
@@ -66,13 +66,13 @@ module _ {Q F X : Type 0} (P : Setting Q F X) where
   pub record Settled (S : Subset) (p : Option Q) (f : F) : Type 0 where
     pub fitted : Fitted S p f
     pub noneAbove : NoneAbove S f
-    pub unused : (j : ℕ) → T (leftOut S j) → T (lt five (P .residual f j))
+    pub unused : (j : ℕ) → j < P .n → T (leftOut S j) → T (lt five (P .residual f j))
 
   -- "A refusal met on the way, as for too few when a round begins or for a residual that is not a number, ends the solve, and that round makes no change."
   pub data Ends (S : Subset) (p : Option Q) (e : Refusal) : Type 0 where
     few : count S (P .n) < P .minimum → e ≡ TooFew (count S (P .n)) → Ends S p e
     unfit : (u : Unfit) → P .minimum ≤ count S (P .n) → P .bestFit S p ≡ fails u → e ≡ ofUnfit u → Ends S p e
-    unnumbered : (f : F) (j : ℕ) → P .minimum ≤ count S (P .n) → P .bestFit S p ≡ gives f → T (kept P j) → T (isNan (P .residual f j)) → e ≡ Singular → Ends S p e
+    unnumbered : (f : F) (j : ℕ) → j < P .n → P .minimum ≤ count S (P .n) → P .bestFit S p ≡ gives f → T (kept P j) → T (isNan (P .residual f j)) → e ≡ Singular → Ends S p e
 
   -- ---- the rounds
   -- k rounds, each of which makes a change, lead from S, after p, to E, after q

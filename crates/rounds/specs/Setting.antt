@@ -1,11 +1,9 @@
 -- What the outlier rounds start from, and what they can come to. Definitions only.
 use mathlib.Core.Option.{Option}
-use mathlib.Core.Bool.{Bool}
 use Prim.Native.Nat.{ℕ}
 use lib.Ieee.{Float}
 use Rattle.binary64.specs.Steps.{#}
 use Rattle.sets.specs.Sets.{Subset, count}
-use Rattle.screen.specs.Screen as screen
 use Rattle.best.specs.declared.Unfit.{Unfit}
 use Rattle.best.specs.declared.Unfit.the-variants as unfit
 use Rattle.best.specs.Best.{Outcome}
@@ -36,8 +34,8 @@ pub data Answer (X : Type 0) : Type 0 where
 -- A problem, as the rounds see it: Q are parameters, F are fits.
 pub record Setting (Q F X : Type 0) : Type 0 where
   pub n : ℕ
-  -- which pairs fail the screen
-  pub fails : ℕ → ℕ → Bool
+  -- which of the n receptions are kept
+  pub kept : Subset
   -- how many receptions a fit needs
   pub minimum : ℕ
   -- the best fit over a set of receptions, after a round that found the parameters
@@ -53,9 +51,8 @@ abbrev pub five : Float
 five = # 0x4014000000000000
 
 module _ {Q F X : Type 0} (P : Setting Q F X) where
-  -- "Kept are the s receptions left when no pair fails the screen"
   abbrev pub kept : Subset
-  kept = screen.kept (P .n) (P .fails)
+  kept = P .kept
 
   -- s
   abbrev pub survivors : ℕ

@@ -11,6 +11,7 @@ use Rattle.dense.specs.Factor.{Factor, found, refused}
 use Rattle.sets.specs.Sets.{Subset, count}
 use Rattle.sets.specs.Mask.{has, maskOf}
 use Rattle.screen.specs.Pair as pair
+use Rattle.screen.specs.Screen as screen
 use Rattle.problem.specs.declared.Altitude.{Altitude}
 use Rattle.problem.specs.declared.Altitude.the-variants.{None, Barometric, Gnss}
 use Rattle.problem.specs.declared.Problem.{Problem}
@@ -62,10 +63,11 @@ module _ (R : Receptions) where
   unfoldable pub later : ℤ → Subset → Fit → Outcome Unpublished Fix
   later reference S fit = tested reference S fit (whitenerOver R S)
 
-  abbrev pub settingOf : (ℕ → ℕ → Bool) → ℤ → Setting (List Float) Fit Fix
-  settingOf clashing reference = record {
+  -- with these kept
+  abbrev pub settingOf : Subset → ℤ → Setting (List Float) Fit Fix
+  settingOf kept reference = record {
     n = R .n;
-    fails = clashing;
+    kept = kept;
     minimum = minimum (R .altitude);
     bestFit = λ S p. bestFitOver R S p;
     params = λ fit. fit .params;
@@ -73,8 +75,12 @@ module _ (R : Receptions) where
     later = λ S fit. later reference S fit;
   }
 
+-- "Kept are the s receptions left when no pair fails the screen"
+abbrev pub keptAt : List ℤ → List ℤ → ℕ → Subset
+keptAt time mm n = screen.kept n (pair.fails time mm n)
+
 abbrev pub settingAt : Problem → Setting (List Float) Fit Fix
-settingAt P = settingOf (receptionsOf P) (pair.fails (P .time) (P .«site_mm») (P .n)) (P .«reference_ps»)
+settingAt P = settingOf (receptionsOf P) (keptAt (P .time) (P .«site_mm») (P .n)) (P .«reference_ps»)
 
 -- `solve_problem`
 unfoldable pub solveProblem : Problem → Answer Fix

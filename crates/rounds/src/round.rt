@@ -1,10 +1,8 @@
 // One round of the outlier rule.
 ghost use mathlib.Core.Path.{_≡_};
-ghost use mathlib.Core.Bool.{Bool};
 ghost use Prim.Native.Nat.{ℕ, _≤_, _<_, _^_};
 ghost use lib.IntN.{ℤ};
 ghost use Rattle.sets.specs.Mask.{has};
-ghost use Rattle.screen.specs.Screen as screen;
 ghost use Rattle.damped.specs.Damped.{unfitted};
 ghost use Rattle.best.specs.OfProblem.{receptions};
 ghost use Rattle.rounds.specs.Rounds as rounds;
@@ -55,7 +53,7 @@ pub fn round(
     state: State,
 ) -> Step
     requires { ⌜ (n ≤ 32) × (state .included < 2 ^ n) ⌝ }
-    ensures { λ r. ⌜ ((fails : ℕ → ℕ → Bool) (reference : ℤ) → has kept ≡ screen.kept n fails → stepOf (r .turn) (r .fit) ≡ rounds.round (settingOf (receptions (now (site .entry)) (now (z .entry)) (now (noise .entry)) (now (clock .entry)) n altitude) fails reference) (has (state .included)) (before state)) × ((m : ℕ) → r .turn ≡ Changes m → m < 2 ^ n) ⌝ }
+    ensures { λ r. ⌜ ((reference : ℤ) → stepOf (r .turn) (r .fit) ≡ rounds.round (settingOf (receptions (now (site .entry)) (now (z .entry)) (now (noise .entry)) (now (clock .entry)) n altitude) (has kept) reference) (has (state .included)) (before state)) × ((m : ℕ) → r .turn ≡ Changes m → m < 2 ^ n) ⌝ }
 {
     let included = state.included;
     let count = sets::count(included);

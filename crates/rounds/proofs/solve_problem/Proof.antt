@@ -4,7 +4,6 @@ use mathlib.Core.Path.{ap, _∙_}
 use mir.Syntax.{w64}
 use mir.Val.{toZ, ofZ}
 use mir.ValLaws.{toZ-ofZ}
-use Rattle.screen.specs.Pair.{fails}
 use Rattle.rounds.specs.Solve.{asAnswer}
 use Rattle.rounds.proofs.Runs.{of-problem}
 use Rattle.rounds.proofs.solve_problem.Statement.{statement}
@@ -19,8 +18,8 @@ outlier-rounds-requires c κs = (c .before .before .before .before .before .befo
 returns : tie.Need-returns
 returns c =
     let p = c .before .before .before .before .before .before .before .before .before .before .before .before .before .before .before .args .p in
-    c .outlier-rounds .ensures (fails (p .time) (p .«site_mm») (p .n)) (c .before .before .before .before .before .screen .ensures .0)
-    ∙ ap asAnswer (of-problem p (toZ w64 (ofZ w64 (p .«reference_ps»))) (toZ-ofZ w64 (p .«reference_ps») (record { sfits = c .before .before .before .before .before .before .before .before .before .before .before .before .before .before .struct-told .given .1 .1 .1 .1 .1 .1 .1 .1 .0 .1 })))
+    c .outlier-rounds .ensures
+    ∙ ap asAnswer (of-problem p _ (toZ w64 (ofZ w64 (p .«reference_ps»))) (c .before .before .before .before .before .screen .ensures .0) (toZ-ofZ w64 (p .«reference_ps») (record { sfits = c .before .before .before .before .before .before .before .before .before .before .before .before .before .before .struct-told .given .1 .1 .1 .1 .1 .1 .1 .1 .0 .1 })))
 
 pub solve-problem-spec : {M : Type 1} → statement M
 solve-problem-spec =

@@ -39,7 +39,7 @@ returns : tie.Need-returns
 returns c =
     let s = c .before .before .before .before in
     let n = c .before .before .before .count in (
-      λ bad reference h. ap (λ (x : Step). stepOf (x .turn) (x .fit)) (c .ended .ensures) ∙ round-few (heard s) bad reference (s .pre .0) (s .args .state .included) (s .pre .1) (before (s .args .state)) (n .result) (n .ensures) (rw (c .before .before .minimum .ensures) at (c .before .if1 .taken)),
+      λ reference. ap (λ (x : Step). stepOf (x .turn) (x .fit)) (c .ended .ensures) ∙ round-few (heard s) (s .args .kept) reference (s .pre .0) (s .args .state .included) (s .pre .1) (before (s .args .state)) (n .result) (n .ensures) (rw (c .before .before .minimum .ensures) at (c .before .if1 .taken)),
       λ m q. absurd (no-change _ m (ap (λ (x : Step). x .turn) (sym (c .ended .ensures)) ∙ q)),
     )
 
@@ -58,7 +58,7 @@ returns-2 c =
     let n = c .before .before .before .before .before .before .before .before .before .count in
     let best = c .before .before .before .before .before .before .fit-included in
     let at = c .before .before .residuals in (
-      λ bad reference h. round-fitted (heard s) bad reference (s .pre .0) (s .args .state .included) (s .pre .1) (before (s .args .state)) (n .result) (n .ensures) (rw (c .before .before .before .before .before .before .before .before .minimum .ensures) at (c .before .before .before .before .before .before .before .if1 .left)) (best .result) (best .ensures) (c .before .before .before .before .before .if2 .taken) (s .args .kept) h (at .result) (λ j l. ap (λ (v : List Float). nth v j) (at .ensures (s .args .altitude)) ∙ fill-at _ (replicate 32 nought) (s .args .n) j (s .pre .0) l) (c .decided .result) (c .decided .ensures .0 (best .result .fit)),
+      λ reference. round-fitted (heard s) (s .args .kept) reference (s .pre .0) (s .args .state .included) (s .pre .1) (before (s .args .state)) (n .result) (n .ensures) (rw (c .before .before .before .before .before .before .before .before .minimum .ensures) at (c .before .before .before .before .before .before .before .if1 .left)) (best .result) (best .ensures) (c .before .before .before .before .before .if2 .taken) (at .result) (λ j l. ap (λ (v : List Float). nth v j) (at .ensures (s .args .altitude)) ∙ fill-at _ (replicate 32 nought) (s .args .n) j (s .pre .0) l) (c .decided .result) (c .decided .ensures .0 (best .result .fit)),
       c .decided .ensures .1,
     )
 
@@ -73,7 +73,7 @@ returns-3 c =
     let s = c .before .before .before .before .before .before .before in
     let n = c .before .before .before .before .before .before .count in
     let best = c .before .before .before .fit-included in (
-      λ bad reference h. ap (λ (x : Step). stepOf (x .turn) (x .fit)) (c .ended2 .ensures) ∙ ap ends (c .before .of-unfit .ensures) ∙ round-unfit (heard s) bad reference (s .pre .0) (s .args .state .included) (s .pre .1) (before (s .args .state)) (n .result) (n .ensures) (rw (c .before .before .before .before .before .minimum .ensures) at (c .before .before .before .before .if1 .left)) (best .result) (best .ensures) (c .before .before .if2 .left),
+      λ reference. ap (λ (x : Step). stepOf (x .turn) (x .fit)) (c .ended2 .ensures) ∙ ap ends (c .before .of-unfit .ensures) ∙ round-unfit (heard s) (s .args .kept) reference (s .pre .0) (s .args .state .included) (s .pre .1) (before (s .args .state)) (n .result) (n .ensures) (rw (c .before .before .before .before .before .minimum .ensures) at (c .before .before .before .before .if1 .left)) (best .result) (best .ensures) (c .before .before .if2 .left),
       λ m q. absurd (no-change _ m (ap (λ (x : Step). x .turn) (sym (c .ended2 .ensures)) ∙ q)),
     )
 
