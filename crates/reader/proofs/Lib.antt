@@ -12,3 +12,4 @@ pub mod Table
 pub mod Fixed
 pub mod Value
 pub mod Shown
+pub mod Stood

@@ -123,15 +123,15 @@ module _ (n : ℕ) (alt : Altitude) (f : Fix) where
   unfolding table front
   metres-shown h = f64-back s 168 (metres alt) (first-read (at 24)) h
 
-  version-shown : versionAt s ≡ 8
+  pub version-shown : versionAt s ≡ 8
   unfolding u16At table front
   version-shown = whole-read (at 22) (lit< tt)
 
-  kind-shown : kindAt s ≡ kind alt
+  pub kind-shown : kindAt s ≡ kind alt
   unfolding table front
   kind-shown = byte-back s 162 (kind alt) (whole-read (at 23) (kind-lt alt))
 
-  none-shown : kindAt s ≡ 0 → Zero s 168 176
+  pub none-shown : kindAt s ≡ 0 → Zero s 168 176
   unfolding table front
   none-shown e = zero-bytes 8 s 168 (first-read (at 24) ∙ none-bits alt (sym kind-shown ∙ e))
 
@@ -139,7 +139,7 @@ module _ (n : ℕ) (alt : Altitude) (f : Fix) where
   unfolding table front clear
   clear-filler = refl
 
-  filler-shown : Zero s 163 168
+  pub filler-shown : Zero s 163 168
   filler-shown j h g = rw (fix-table n alt f) (stays (table n alt f) blank 163 168 j clear-filler h g ∙ zero-at 176 j)
 
   pub fix-rules
