@@ -1,13 +1,15 @@
 -- A file that is too long gets the reply of what the program `solve` cuts it to: the statement of specs/Cut.antt. Assumes nothing.
-use Prim.Native.Nat.{ℕ, _*_, _-_, _/_, _%_, _≤_, _<_}
-use mathlib.Core.Path.{_≡_, refl, ap, sym, _∙_}
+use Prim.Native.Nat.{ℕ, _*_, _-_, _/_, _%_, _≤_, _<_, min}
+use mathlib.Core.Path.{_≡_, refl, ap, ap₂, sym, _∙_}
 use mathlib.Core.Bool.{Bool, true, false, cond, _&&_}
 use mathlib.Core.List.{List}
 use mathlib.Core.Option.{Option, some}
 use native.Mathlib.Omega.{arith}
-use borrow.Author.Tests.{eq-eqb, ne-eqb, lt-leb, leb-true}
-use lib.Dec.{eqb, leb}
-use lib.ListN.{length}
+use borrow.Author.Tests.{eq-eqb, ne-eqb, lt-ltb, lt-leb, leb-true, ltb-true, ltb-false, eqb-true, eqb-false}
+use lib.Dec.{eqb, leb, ltb}
+use lib.ListN.{length, take}
+use lib.Seq.{take-all, length-take-le}
+use Rattle.sets.specs.Mask.{has}
 use Rattle.dense.proofs.Places.{room}
 use Rattle.receptions.specs.Receptions.{receptionBytes, receptionAt}
 use Rattle.inputs.specs.declared.Fault.{Fault}
@@ -16,8 +18,8 @@ use Rattle.inputs.specs.declared.Check.{Check}
 use Rattle.inputs.specs.declared.Check.the-variants.{Passed, Refused}
 use Rattle.inputs.specs.Faults.{numberOf, detailOf, orElse, unless, firstTo}
 use Rattle.inputs.specs.Inputs.{Inputs, sized, whole, checkReception, checkClock, checkInputs}
-use Rattle.entry.specs.Reply.{turnedAway, replied, reply}
-use Rattle.entry.specs.Cut.{filed, oneTooMany, CutRepliesAlike}
+use Rattle.entry.specs.Reply.{given, turnedAway, replied, reply}
+use Rattle.entry.specs.Cut.{filed, oneTooMany, taken, cutOf, presentBits, CutRepliesAlike}
 use Rattle.entry.proofs.Replies.{made, bare}
 
 -- n is not written
@@ -51,6 +53,38 @@ module _ (clock alt ref : Option (List ℕ)) where
       : (rs cut : List ℕ) → length rs % receptionBytes ≡ 0 → oneTooMany ≤ length rs → length cut ≡ oneTooMany
       → reply (filed rs clock alt ref) ≡ reply (filed cut clock alt ref)
   cut-whole rs cut h l e = many-reply rs h (omega arith) ∙ sym (many-reply cut (omega arith) (omega arith))
+
+  -- so what is taken stands for all of it, whatever its length
+  module _ (rs : List ℕ) where
+    abbrev over : Bool
+    over = eqb ((length rs - oneTooMany) % receptionBytes) 0
+
+    taking : (m : ℕ) → taken (min (length rs) oneTooMany) over ≡ m → cutOf rs ≡ take m rs
+    taking m e = ap (λ (k : ℕ). take k rs) e
+
+    short : length rs < oneTooMany → cutOf rs ≡ rs
+    short l =
+        let e : min (length rs) oneTooMany ≡ length rs = omega arith in
+        taking (length rs) (rw (e, lt-ltb (length rs) oneTooMany l) refl) ∙ take-all (length rs) rs (omega arith)
+
+    full : oneTooMany ≤ length rs → (w : Bool) → over ≡ w → taken (min (length rs) oneTooMany) over ≡ cond w oneTooMany (oneTooMany - 1)
+    full l w f = let e : min (length rs) oneTooMany ≡ oneTooMany = omega arith in ap₂ (λ (k : ℕ) (x : Bool). taken k x) e f
+
+    filled : oneTooMany ≤ length rs → (w : Bool) → over ≡ w → reply (filed rs clock alt ref) ≡ reply (filed (cutOf rs) clock alt ref)
+    filled l true f =
+        let e : cutOf rs ≡ take oneTooMany rs = taking oneTooMany (full l true f) in
+        let r : (length rs - oneTooMany) % receptionBytes ≡ 0 = eqb-true ((length rs - oneTooMany) % receptionBytes) 0 f in
+        cut-whole rs (cutOf rs) (omega (arith, r, l)) l (ap length e ∙ length-take-le oneTooMany rs l)
+    filled l false f =
+        let e : cutOf rs ≡ take (oneTooMany - 1) rs = taking (oneTooMany - 1) (full l false f) in
+        cut-torn rs (cutOf rs) (λ q. eqb-false ((length rs - oneTooMany) % receptionBytes) 0 f (omega (arith, q, l))) (ap length e ∙ length-take-le (oneTooMany - 1) rs (omega (arith, l)))
+
+    cut-receptions : reply (filed rs clock alt ref) ≡ reply (filed (cutOf rs) clock alt ref)
+    cut-receptions = go (ltb (length rs) oneTooMany) refl
+      where
+        go : (b : Bool) → ltb (length rs) oneTooMany ≡ b → reply (filed rs clock alt ref) ≡ reply (filed (cutOf rs) clock alt ref)
+        go true e = ap (λ (x : List ℕ). reply (filed x clock alt ref)) (sym (short (ltb-true (length rs) oneTooMany e)))
+        go false e = filled (ltb-false (length rs) oneTooMany e) over refl
 
 -- ---- the clock covariance
 module _ (rs : List ℕ) (alt ref : Option (List ℕ)) where
@@ -113,10 +147,21 @@ module _ (rs : List ℕ) (clock : Option (List ℕ)) where
       ∙ sym (torn-by alt (some cut) (rw (ne-eqb (length cut) 8 (λ e. omega arith)) (off (sized 16 alt))))
 
 -- ---- the statement
+bits-read : (c a r : Bool) → given (presentBits c a r) ≡ record { clock = c; altitude = a; reference = r }
+unfolding has
+bits-read true true true = refl
+bits-read true true false = refl
+bits-read true false true = refl
+bits-read true false false = refl
+bits-read false true true = refl
+bits-read false true false = refl
+bits-read false false true = refl
+bits-read false false false = refl
+
 pub cut-replies-alike : CutRepliesAlike
 cut-replies-alike = record {
-  torn = λ rs cut clock alt ref. cut-torn clock alt ref rs cut;
-  whole = λ rs cut clock alt ref. cut-whole clock alt ref rs cut;
+  bits = bits-read;
+  receptions = λ rs clock alt ref. cut-receptions clock alt ref rs;
   clock = λ rs c cut alt ref. cut-clock rs alt ref c cut;
   altitude = λ rs a cut clock ref. cut-altitude rs clock a cut ref;
   reference = λ rs r cut clock alt. cut-reference rs clock r cut alt;

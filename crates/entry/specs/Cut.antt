@@ -1,13 +1,14 @@
 -- What the program `solve` may leave unread: a file that is too long gets the reply of what it is cut to. A statement only: proofs/Cut.antt proves it.
-use Prim.Native.Nat.{ℕ, _*_, _-_, _/_, _%_, _≤_, _<_}
+use Prim.Native.Nat.{ℕ, _+_, _*_, _-_, _/_, _%_, _<_, min}
 use mathlib.Core.Path.{_≡_}
+use mathlib.Core.Bool.{Bool, cond}
 use mathlib.Core.List.{List}
 use mathlib.Core.Option.{Option, some}
-use lib.Dec.{eqb}
-use lib.ListN.{length}
+use lib.Dec.{eqb, ltb}
+use lib.ListN.{length, take}
 use Rattle.receptions.specs.Receptions.{receptionBytes, receptionAt}
 use Rattle.inputs.specs.Inputs.{Inputs}
-use Rattle.entry.specs.Reply.{reply}
+use Rattle.entry.specs.Reply.{given, reply}
 
 -- the bytes of receptions.bin, clock.bin, altitude.bin and reference.bin, as `lent` has them
 abbrev pub filed : List ℕ → Option (List ℕ) → Option (List ℕ) → Option (List ℕ) → Inputs
@@ -24,17 +25,28 @@ filed rs clock altitude reference = record {
 abbrev pub oneTooMany : ℕ
 oneTooMany = 33 * receptionBytes
 
+-- How many of the n bytes that were read, of room for so many, stand for the file: all of them, but one fewer where they
+-- fill the room and what follows is no whole number of receptions.
+abbrev pub taken : ℕ → Bool → ℕ
+taken n whole = cond (ltb n oneTooMany) n (cond whole n (n - 1))
+
+-- what is taken of a receptions.bin
+abbrev pub cutOf : List ℕ → List ℕ
+cutOf rs = take (taken (min (length rs) oneTooMany) (eqb ((length rs - oneTooMany) % receptionBytes) 0)) rs
+
+-- the bits of the inputs that are there
+abbrev pub presentBits : Bool → Bool → Bool → ℕ
+presentBits clock altitude reference = cond clock 1 0 + cond altitude 2 0 + cond reference 4 0
+
 pub record CutRepliesAlike : Type 0 where
-  -- a byte less than that stands for every torn receptions.bin
-  pub torn :
-      (rs cut : List ℕ) (clock altitude reference : Option (List ℕ))
-      → (length rs % receptionBytes ≡ 0 → ⊥) → length cut ≡ oneTooMany - 1
-      → reply (filed rs clock altitude reference) ≡ reply (filed cut clock altitude reference)
-  -- and just as much for every whole number of receptions above 32
-  pub whole :
-      (rs cut : List ℕ) (clock altitude reference : Option (List ℕ))
-      → length rs % receptionBytes ≡ 0 → oneTooMany ≤ length rs → length cut ≡ oneTooMany
-      → reply (filed rs clock altitude reference) ≡ reply (filed cut clock altitude reference)
+  -- the bits are those that the solve reads
+  pub bits :
+      (clock altitude reference : Bool)
+      → given (presentBits clock altitude reference) ≡ record { clock = clock; altitude = altitude; reference = reference }
+  -- what is taken stands for every receptions.bin, torn, whole or too long
+  pub receptions :
+      (rs : List ℕ) (clock altitude reference : Option (List ℕ))
+      → reply (filed rs clock altitude reference) ≡ reply (filed (cutOf rs) clock altitude reference)
   -- one byte too many for every longer clock.bin, altitude.bin and reference.bin
   pub clock :
       (rs c cut : List ℕ) (altitude reference : Option (List ℕ)) → 8_192 < length c → 8_192 < length cut

@@ -23,6 +23,7 @@ use Rattle.rounds.specs.Demand.{rounds, remaining, Claim, Demand}
 use Rattle.record.specs.declared.content.Fix.{Fix}
 use Rattle.record.specs.Record.{refusal, stored}
 use Rattle.record.specs.Record as shown
+use Rattle.reader.specs.Stands.{Stands}
 use Rattle.entry.specs.declared.Reply.{Reply}
 
 -- ---- the inputs, as a caller lends them
@@ -72,8 +73,10 @@ abbrev pub output : Inputs → List ℕ → List ℕ
 output I out = cond (ltb (length out) 176) out (stored out (reply I .bytes))
 
 -- Demand 3, of the bytes that are written: they are the record of an answer that meets it, and no other answer meets its claim.
+-- Of a fix, each value that `Found` speaks of stands at its place among them.
 pub record Demanded (P : Problem) (out : List ℕ) : Type 0 where
   pub answer : Answer Fix
   pub demand : Demand P answer
   pub written : take 176 out ≡ recordOf (P .n) (P .shown) answer
+  pub shows : (x : Fix) → answer ≡ fix x → Stands (take 176 out) (P .n) (P .shown) x
   pub alone : (other : Answer Fix) → Claim (rounds P) (remaining P) other → other ≡ answer

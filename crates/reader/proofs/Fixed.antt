@@ -97,7 +97,7 @@ pub u32-back : (s : List ℕ) (k x : ℕ) → wordAt 4 s k ≡ x → x ≡ u32At
 unfolding u32At
 u32-back s k x e = sym e
 
-i64-back : (s : List ℕ) (k : ℕ) (x : ℤ) → wordAt 8 s k ≡ ofZ w64 x → SFits w64 x → x ≡ i64At s k
+pub i64-back : (s : List ℕ) (k : ℕ) (x : ℤ) → wordAt 8 s k ≡ ofZ w64 x → SFits w64 x → x ≡ i64At s k
 unfolding i64At u64At
 i64-back s k x e h = sym (ap (toZ w64) e ∙ toZ-ofZ w64 x h)
 

@@ -226,7 +226,7 @@ pub by-cast : (x z : ℤ) (t r : Float) (m : Moment) → r ≡ halfAway (t ⊘ #
 unfolding transmitPs
 by-cast x z t r m R e h = h ∙ ap (λ (y : ℤ). momentOf (x +ℤ y)) (sym e ∙ ap (toSigned 127) (R ∙ ap₂ (λ (c s : Float). halfAway (t ⊘ c ⊗ s)) (sym light) (sym second)))
 
-held-fits : (z : ℤ) → held z ≡ true → SFits w64 z
+pub held-fits : (z : ℤ) → held z ≡ true → SFits w64 z
 held-fits (pos n) h = record { sfits = ltb-true n (2 ^ 63) h }
 held-fits (negsuc n) h = record { sfits = ltb-true n (2 ^ 63) h }
 
