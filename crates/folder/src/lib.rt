@@ -1,14 +1,15 @@
 // The four files of a problem, read from the current folder, for the programs that take them. A file that is absent
 // is an absent input. One that is there and cannot be read is said on standard error.
 //
-// A file that is too long is cut to a length that gets the same answer (crates/entry/proofs/Cut.antt).
+// A file that is too long is cut to a length that gets the same answer (crates/entry/specs/Cut.antt).
 // For clock.bin, altitude.bin and reference.bin that is one byte more than the longest that is taken. Of
 // receptions.bin 4,356 bytes, one reception too many, stand for every longer whole number of receptions,
 // and 4,355 for every torn one.
-ghost use Prim.Native.Nat.{_+_, _≤_};
+ghost use Prim.Native.Nat.{_≤_};
 ghost use mathlib.Core.Bool.{cond};
 ghost use mathlib.Core.Path.{_≡_};
 ghost use Rattle.io.specs.Counts.{Counts};
+ghost use Rattle.entry.specs.Cut.{taken, presentBits};
 use libc::ENOENT;
 
 // The bytes of 33 receptions.
@@ -109,7 +110,7 @@ fn rest_is_whole(fd: i32) -> bool {
 // How many of the n bytes that were read of receptions.bin stand for all of it. Where they fill the buffer, it
 // matters whether what follows them is a whole number of receptions.
 fn taken(n: usize, whole: bool) -> usize
-    ensures { λ r. ⌜ r ≤ n ⌝ }
+    ensures { λ r. ⌜ (r ≡ taken n whole) × (r ≤ n) ⌝ }
 {
     if n < ONE_TOO_MANY {
         return n;
@@ -150,7 +151,7 @@ fn bit(there: bool, value: u32) -> u32
 
 // The bits of the inputs that are there.
 pub fn present(clock: bool, altitude: bool, reference: bool) -> u32
-    ensures { λ r. ⌜ r ≡ cond clock 1 0 + cond altitude 2 0 + cond reference 4 0 ⌝ }
+    ensures { λ r. ⌜ r ≡ presentBits clock altitude reference ⌝ }
 {
     bit(clock, 1) + bit(altitude, 2) + bit(reference, 4)
 }

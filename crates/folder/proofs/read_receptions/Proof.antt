@@ -40,7 +40,7 @@ same-length c = search needs
 
 returns-2 : tie.Need-returns-2
 returns-2 c =
-    let h : c .taken .result ≤ length (c .before .before .before .before .before .before .read-full .last .1 .0) = omega arith in
+    let h : c .taken .result ≤ length (c .before .before .before .before .before .before .read-full .last .1 .0) = omega (arith, c .taken .ensures .1) in
     (h, sym (length-take-le (c .taken .result) (c .before .before .before .before .before .before .read-full .last .1 .0) h))
 
 pub read-receptions-spec : {M : Type 1} → statement M
