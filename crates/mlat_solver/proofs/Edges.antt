@@ -1,16 +1,14 @@
--- Document 01's † edges, each by computation in the crate that it is about. Assumes nothing.
-use mathlib.Core.Path.{refl}
+-- Document 01's † edges, each from the crate that it is about. Assumes nothing.
 use Rattle.binary64.proofs.Edges as numbers
-use Rattle.screen.specs.Pair.{baseline, passes}
 use Rattle.screen.proofs.Edges as pairs
 use Rattle.limits.proofs.Edges as limits
 use Rattle.mlat_solver.specs.Edges.{Edges}
 
 pub edges : Edges
-unfolding passes baseline
 edges = record {
-  oneSite = (refl, refl);
-  equality = (pairs.equality-passes, pairs.one-more-fails);
+  oneSite = λ s. (pairs.one-site-passes s, pairs.one-site-fails s);
+  equality = pairs.equality;
+  atEquality = (pairs.equality-passes, pairs.one-more-fails);
   twos = pairs.baseline-of-twos;
   farthest = pairs.baseline-of-the-farthest;
   firstGoes = pairs.first-goes;

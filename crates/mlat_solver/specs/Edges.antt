@@ -1,7 +1,7 @@
 -- Document 01, 'Edges, to either side': those marked †, as one table. Statements only: proofs/Edges.antt proves it.
 use mathlib.Core.Path.{_≡_}
 use mathlib.Core.Bool.{Bool, true, false, _&&_, _||_}
-use Prim.Native.Nat.{ℕ}
+use Prim.Native.Nat.{ℕ, _+_, _*_, _^_}
 use lib.Dec.{eqb}
 use lib.IntN.{ℤ, pos, negsuc}
 use lib.Ieee.{fin, binary64, toBits}
@@ -26,10 +26,11 @@ Kept fails a b c = (kept 3 fails 0 ≡ a) × (kept 3 fails 1 ≡ b) × (kept 3 f
 
 -- `fin s m (pos k)` is m * 2 ^ k and `fin s m (negsuc k)` is m * 2 ^ -(k + 1), negative where s is true
 pub record Edges : Type 0 where
-  -- "One site twice: gap 3,335,640 ps passes, 3,335,641 fails."
-  pub oneSite : (passes 3_335_640 (baseline (diagonal (pos 7)) (diagonal (pos 7))) ≡ true) × (passes 3_335_641 (baseline (diagonal (pos 7)) (diagonal (pos 7))) ≡ false)
+  -- "One site twice: gap 3,335,640 ps passes, 3,335,641 fails.", whatever the site
+  pub oneSite : (s : Site) → (passes 3_335_640 (baseline s s) ≡ true) × (passes 3_335_641 (baseline s s) ≡ false)
   -- "Baseline 148,896,229 mm: 500,000,000 passes (equality), 500,000,001 fails."
-  pub equality : (passes 500_000_000 148_896_229 ≡ true) × (passes 500_000_001 148_896_229 ≡ false)
+  pub equality : 500_000_000 * 299_792_458 ≡ (148_896_229 + 1_000_000) * 10 ^ 9
+  pub atEquality : (passes 500_000_000 148_896_229 ≡ true) × (passes 500_000_001 148_896_229 ≡ false)
   -- "Differences (2, 2, 2) mm: baseline 3. (2·10^10 on each axis): 34,641,016,151."
   pub twos : baseline (diagonal (pos 0)) (diagonal (pos 2)) ≡ 3
   pub farthest : baseline (diagonal (negsuc 9_999_999_999)) (diagonal (pos 10_000_000_000)) ≡ 34_641_016_151

@@ -1,23 +1,29 @@
--- Document 01's edges of the screen, each computed. Assumes nothing.
-use mathlib.Core.Path.{_≡_, refl}
+-- Document 01's edges of the screen, each computed, one of them for every site. Assumes nothing.
+use mathlib.Core.Path.{_≡_, refl, ap, ap₂}
 use mathlib.Core.Bool.{Bool, true, false, _&&_, _||_}
 use Prim.Native.Nat.{ℕ, _+_, _*_, _^_}
 use lib.Dec.{eqb}
 use lib.IntN.{ℤ, pos, negsuc}
-use Rattle.screen.specs.Pair.{Site, gap, baseline, passes}
+use Rattle.binary64.specs.Root.{floorRoot}
+use Rattle.screen.specs.Pair.{Site, square, baseline, passes}
 use Rattle.screen.specs.Screen.{kept}
+use Rattle.screen.proofs.Gaps.{gap-self}
 
 abbrev at : ℤ → ℤ → ℤ → Site
 at x y z = record { x = x; y = y; z = z }
 
--- ---- "One site twice: gap 3,335,640 ps passes, 3,335,641 fails."
-pub one-site-passes : passes (gap (pos 0) (pos 3_335_640)) (baseline (at (pos 7) (pos 8) (pos 9)) (at (pos 7) (pos 8) (pos 9))) ≡ true
-unfolding passes baseline
-one-site-passes = refl
+-- ---- "One site twice: gap 3,335,640 ps passes, 3,335,641 fails.", whatever the site
+pub no-baseline : (s : Site) → baseline s s ≡ 0
+unfolding baseline
+no-baseline s = ap₂ (λ (xy z : ℕ). floorRoot (xy + square z)) (ap₂ (λ (x y : ℕ). square x + square y) (gap-self (s .x)) (gap-self (s .y))) (gap-self (s .z))
 
-pub one-site-fails : passes (gap (pos 0) (pos 3_335_641)) (baseline (at (pos 7) (pos 8) (pos 9)) (at (pos 7) (pos 8) (pos 9))) ≡ false
-unfolding passes baseline
-one-site-fails = refl
+pub one-site-passes : (s : Site) → passes 3_335_640 (baseline s s) ≡ true
+unfolding passes
+one-site-passes s = ap (passes 3_335_640) (no-baseline s)
+
+pub one-site-fails : (s : Site) → passes 3_335_641 (baseline s s) ≡ false
+unfolding passes
+one-site-fails s = ap (passes 3_335_641) (no-baseline s)
 
 -- ---- "Baseline 148,896,229 mm: 500,000,000 passes (equality), 500,000,001 fails."
 pub equality : 500_000_000 * 299_792_458 ≡ (148_896_229 + 1_000_000) * 10 ^ 9

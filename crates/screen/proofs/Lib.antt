@@ -1,4 +1,5 @@
 -- The laws of failing pairs, of their rows, of the removals, and of the numbers that these keep.
+pub mod Gaps
 pub mod Reach
 pub mod Symmetry
 pub mod Rows

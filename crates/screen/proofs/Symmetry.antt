@@ -1,24 +1,14 @@
 -- A pair fails or passes whichever of the two is named first, and a reception passes with itself. Assumes nothing.
-use mathlib.Core.Path.{_≡_, refl, sym, ap, ap₂, _∙_}
+use mathlib.Core.Path.{_≡_, refl, ap, ap₂}
 use mathlib.Core.Bool.{false, not}
 use mathlib.Core.List.{List}
-use Prim.Native.Nat.{ℕ, zero, suc, _+_, _*_, _^_}
+use Prim.Native.Nat.{ℕ, _+_, _*_, _^_}
 use native.Mathlib.Omega.{arith}
-use lib.IntN.{ℤ, pos, negsuc, natAbs, negℤ, _+ℤ_, _-ℤ_, negℤ-+ℤ, negℤ-negℤ, +ℤ-comm, +ℤ-invr}
+use lib.IntN.{ℤ}
 use borrow.Author.Tests.{le-leb}
 use Rattle.binary64.specs.Root.{floorRoot}
 use Rattle.screen.specs.Pair.{Site, gap, squared, baseline, passes, timeAt, siteAt, clash}
-
-size-neg : (a : ℤ) → natAbs (negℤ a) ≡ natAbs a
-size-neg (pos zero) = refl
-size-neg (pos (suc n)) = refl
-size-neg (negsuc n) = refl
-
-gap-sym : (a b : ℤ) → gap a b ≡ gap b a
-gap-sym a b = sym (size-neg (a -ℤ b)) ∙ ap natAbs (negℤ-+ℤ a (negℤ b) ∙ ap (λ (x : ℤ). negℤ a +ℤ x) (negℤ-negℤ b) ∙ +ℤ-comm (negℤ a) b)
-
-gap-self : (a : ℤ) → gap a a ≡ 0
-gap-self a = ap natAbs (+ℤ-invr a)
+use Rattle.screen.proofs.Gaps.{gap-sym, gap-self}
 
 squared-sym : (a b : Site) → squared a b ≡ squared b a
 squared-sym a b = rw (gap-sym (a .x) (b .x), gap-sym (a .y) (b .y), gap-sym (a .z) (b .z)) refl
