@@ -3,6 +3,7 @@ pub mod Squares
 pub mod Floor
 pub mod Fold
 pub mod Shift
+pub mod BitTests
 pub mod Patterns
 pub mod Decode
 pub mod Fields
@@ -11,6 +12,7 @@ pub mod BitsLaw
 pub mod HalfLaw
 pub mod Nearer
 pub mod RootDigits
+pub mod RootBits
 pub mod Held
 pub mod Meaning
 pub mod Edges

@@ -1,7 +1,6 @@
 // The square root of an f64, from the bits of its argument.
 ghost use mathlib.Core.Path.{_≡_};
 ghost use Prim.Native.Nat.{_+_, _*_, _/_, _^_, _<_, _≤_};
-ghost use mathlib.Core.Bool.{true};
 ghost use lib.Ieee.{binary64, ofBits};
 ghost use Rattle.binary64.specs.Root.{root, rootUnits, Nearest};
 use crate::DIGITS;
@@ -23,24 +22,24 @@ fn above(r: u64) -> u64
     a * a + ((2 * a * b + ((b * b + r) >> 26)) >> 26)
 }
 
-// Whether r is the whole number nearest to the root of m * 2^52: above(r - 1) < m <= above(r), from
-// one square.
-fn near(m: u64, r: u64) -> bool
+// 0 only where r is the whole number nearest to the root of m * 2^52: above(r - 1) < m <= above(r),
+// from one square and without a branch.
+fn far(m: u64, r: u64) -> u64
     requires { ⌜ (m < 2 ^ 54) × (2 ^ 52 ≤ r) × (r ≤ 2 ^ 53) ⌝ }
-    ensures { λ ok. ⌜ (ok ≡ true → Nearest (m * 2 ^ 52) r) ⌝ }
+    ensures { λ g. ⌜ (g ≡ 0 → Nearest (m * 2 ^ 52) r) ⌝ }
 {
     let a = r >> 26;
     let b = r & 0x3ff_ffff;
     let aa = a * a;
     let ab = 2 * a * b;
     let bb = b * b;
-    if m <= aa + ((ab + ((bb + r) >> 26)) >> 26) {
-        // 2^54 keeps the difference from going below zero, and is 4 after the shifts
-        if aa + ((ab + ((bb + (0x40_0000_0000_0000 - r)) >> 26)) >> 26) < m + 4 {
-            return true;
-        }
-    }
-    false
+    let most = aa + ((ab + ((bb + r) >> 26)) >> 26);
+    // 2^54 keeps the difference from going below zero, and is 4 after the shifts
+    let least = aa + ((ab + ((bb + (0x40_0000_0000_0000 - r)) >> 26)) >> 26);
+    // the first reaches 2^62 where most < m, the second where m + 4 <= least
+    let over = 0x3fff_ffff_ffff_ffff + m - most;
+    let under = 0x3fff_ffff_ffff_fffc + least - m;
+    (over | under) >> 62
 }
 
 // The whole number nearest to the root of m * 2^52, by halving the range that it lies in.
@@ -62,62 +61,14 @@ fn bisect(m: u64) -> u64
     high
 }
 
-// A number near the root of m * 2^(52 + odd), by floating point: for u from 1 up to 4, the root of u
-// in units of 2^-52. Nothing is promised of how near it is, and only the time that a root takes
-// turns on it: it is the nearest for all but one m in some thousands.
-fn guess(m: u64, odd: u64) -> u64
-    requires { ⌜ (m < 2 ^ 53) × (odd < 2) ⌝ }
-    ensures { λ r. ⌜ (2 ^ 52 ≤ r) × (r ≤ 2 ^ 53) ⌝ }
-{
-    let bits = m + (1022 + odd) * LEAD;
-    let u = f64::from_bits(bits);
-    // 1 / the root of u, within 1 part in 7, then in 1,500, then in 3 million: two of Newton's steps,
-    // their factors chosen to make the greatest error over all u least
-    let y0 = f64::from_bits(0x5fe4_0000_0000_0000 - (bits >> 1));
-    let y1 = 1.681914 * y0 - 0.703952253 * u * y0 * (y0 * y0);
-    let y = 1.5000004725 * y1 - 0.5000001575 * u * y1 * (y1 * y1);
-    // the root of u is g / the root of (1 - e) with e = 1 - g * y, which is, to the second order in e,
-    // g + (u - g * g) * y * (0.5 + 0.375 * e)
-    let g = u * y;
-    let slope = y * (0.875 - 0.375 * (g * y));
-    // u - g * g, exactly: adding 3 * 2^26 and taking it off leaves g's upper binary digits in `top`
-    let top = (g + 201326592.0) - 201326592.0;
-    let rest = (u - top * top) - (g + top) * (g - top);
-    let s = g + rest * slope;
-    // the root is from 1 to 2, and any other s, or a not-a-number, is no guess
-    if s >= 1.0 {
-        let b = f64::to_bits(s);
-        if b >= 0x3ff0_0000_0000_0000 {
-            if b <= 0x4000_0000_0000_0000 {
-                return b - 0x3fe0_0000_0000_0000;
-            }
-        }
-    }
-    LEAD
-}
-
-// The whole number nearest to the root of m * 2^(52 + odd).
-fn settle(m: u64, odd: u64) -> u64
-    requires { ⌜ (2 ^ 52 ≤ m) × (m < 2 ^ 53) × (odd < 2) ⌝ }
-    ensures { λ r. ⌜ Nearest (m * 2 ^ odd * 2 ^ 52) r ⌝ }
-{
-    let whole = m << odd;
-    let r = guess(m, odd);
-    if near(whole, r) {
-        return r;
-    }
-    bisect(whole)
-}
-
 // The bits of the root of m * 2^p units, where the unit's root is one too.
 fn root_of(m: u64, p: u64) -> u64
     requires { ⌜ (2 ^ 52 ≤ m) × (m < 2 ^ 53) ⌝ }
     requires { ⌜ (52 ≤ p) × (p ≤ 3119) ⌝ }
     ensures { λ b. ⌜ (b < 0x7ff0_0000_0000_0000) × (ofBits binary64 b ≡ rootUnits (m * 2 ^ p)) ⌝ }
 {
-    let odd = p % 2;
     let half = (p - 52) / 2;
-    let r = settle(m, odd);
+    let r = bisect(m << (p % 2));
     half * LEAD + r
 }
 
@@ -139,9 +90,8 @@ fn root_bits(bits: u64) -> u64
     root_of(m, 1074 - k)
 }
 
-// IEEE 754's square root: the binary64 nearest the exact root, ties to even. -0 gives -0, any other
-// negative number a not-a-number, infinity infinity.
-pub fn sqrt(x: f64) -> f64
+// The root of x by its bits and `bisect` alone.
+fn halved(x: f64) -> f64
     ensures { λ r. ⌜ r ≡ root x ⌝ }
 {
     if x != x {
@@ -161,4 +111,72 @@ pub fn sqrt(x: f64) -> f64
         return x;
     }
     f64::from_bits(root_bits(bits))
+}
+
+// A number near the root of x, which has these bits. Nothing is promised of how near it is, and only
+// the time that a root takes turns on it: of a normal x it is the root all but once in some thousands.
+fn guess(x: f64, bits: u64) -> f64
+    requires { ⌜ bits < 2 ^ 63 ⌝ }
+{
+    // 1 / the root of x, within 1 part in 7, then in 1,500, then in 3 million: two of Newton's steps,
+    //     y1 = 1.681914 * y0 - 0.703952253 * x * y0^3, y = 1.5000004725 * y1 - 0.5000001575 * x * y1^3,
+    // their factors chosen to make the greatest error over all x least. z1 and z are y1 and y over such
+    // constants that x has no factor: y = 0.17442139308438256 * z
+    let z0 = f64::from_bits(0x5fe4_0000_0000_0000 - (bits >> 1));
+    let z1 = 2.3892444307582887 * z0 - (x * z0) * (z0 * z0);
+    let z = 6.053894499091614 * z1 - (x * z1) * (z1 * z1);
+    // the root of x is g / the root of (1 - e) with g = x * y and e = 1 - g * y, which is, to the second
+    // order in e, g + (x - g * g) * y * (0.5 + 0.375 * e)
+    let g = (0.17442139308438256 * x) * z;
+    let slope = z * (0.15261871894883475 - 0.011408558387061262 * (g * z));
+    // x - g * g, exactly: adding 3 * 2^26 times the power of two below g and taking it off leaves g's
+    // upper binary digits in `top`
+    let big = f64::from_bits(((bits + LEAD) >> 53) * LEAD + 0x21a8_0000_0000_0000);
+    let top = (g + big) - big;
+    let rest = (x - top * top) - (g + top) * (g - top);
+    g + rest * slope
+}
+
+// The bits of x where it is 0 or more, and 0 where it is less or a not-a-number.
+fn bits_of(x: f64) -> u64
+    ensures { λ b. ⌜ (0 < b → ofBits binary64 b ≡ x) ⌝ }
+{
+    if x >= 0.0 {
+        return f64::to_bits(x);
+    }
+    0
+}
+
+// 0 only where b are the bits of the root of the value with these bits, if that is normal: where the
+// exponent is the root's, and the binary digits, with the leading one, are the whole number nearest to
+// the root of the value's.
+fn off(bits: u64, b: u64) -> u64
+    ensures { λ r. ⌜ (r ≡ 0 → 2 ^ 52 ≤ bits → bits < 0x7ff0_0000_0000_0000
+        → (0 < b) × (ofBits binary64 b ≡ root (ofBits binary64 bits))) ⌝ }
+{
+    let e = (bits >> 52) + 1021;
+    let m = (bits & DIGITS) + LEAD;
+    let r = (b & DIGITS) + LEAD;
+    ((b >> 52) ^ (e / 2 + 1)) | far(m + m * (e % 2), r)
+}
+
+// IEEE 754's square root: the binary64 nearest the exact root, ties to even. -0 gives -0, any other
+// negative number a not-a-number, infinity infinity. Of a normal x it is the guess, which whole
+// numbers only check, so that nothing waits for them.
+pub fn sqrt(x: f64) -> f64
+    ensures { λ r. ⌜ r ≡ root x ⌝ }
+{
+    if x != x {
+        return x;
+    }
+    let bits = f64::to_bits(x);
+    if bits >= LEAD {
+        if bits < INFINITY {
+            let s = guess(x, bits);
+            if off(bits, bits_of(s)) == 0 {
+                return s;
+            }
+        }
+    }
+    halved(x)
 }

@@ -1,59 +1,31 @@
--- `binary64::square_root::guess` meets its contract: it is within its bounds, and no bits of a not-a-number are asked for. Assumes nothing.
+-- `binary64::square_root::guess` meets its contract, which promises nothing: no sum wraps, and no bits of a not-a-number are read as a value.
+-- Assumes nothing.
 use native.Mathlib.Omega.{arith}
 use borrow.Author.Needs.{needs}
-use Rattle.binary64.proofs.Patterns.{no-nan, le-number}
+use Rattle.binary64.proofs.Patterns.{no-nan}
 use Rattle.binary64.proofs.square_root.guess.Statement.{statement}
 use Rattle.binary64.proofs.square_root.guess.Tie as tie
 
-add-bits : tie.Need-add-bits
-add-bits c = search needs
+sub-z0 : tie.Need-sub-z0
+sub-z0 c = search needs
 
-mul-bits : tie.Need-mul-bits
-mul-bits c = search needs
+float-from-bits-z0 : tie.Need-float-from-bits-z0
+float-from-bits-z0 c = no-nan _ (omega arith)
 
-add-bits-2 : tie.Need-add-bits-2
-add-bits-2 c = search needs
+add-big : tie.Need-add-big
+add-big c = search needs
 
-float-from-bits-u : tie.Need-float-from-bits-u
-float-from-bits-u c = no-nan _ (omega arith)
+mul-big : tie.Need-mul-big
+mul-big c = search needs
 
-sub-y0 : tie.Need-sub-y0
-sub-y0 c = search needs
+add-big-2 : tie.Need-add-big-2
+add-big-2 c = search needs
 
-float-from-bits-y0 : tie.Need-float-from-bits-y0
-float-from-bits-y0 c = no-nan _ (omega arith)
-
-float-to-bits-b : tie.Need-float-to-bits-b
-float-to-bits-b c = le-number _ _ (c .if1 .taken)
-
-sub-result : tie.Need-sub-result
-sub-result c = search needs
+float-from-bits-big : tie.Need-float-from-bits-big
+float-from-bits-big c = no-nan _ (omega arith)
 
 returns : tie.Need-returns
 returns c = search needs
 
-returns-2 : tie.Need-returns-2
-returns-2 c = search needs
-
-returns-3 : tie.Need-returns-3
-returns-3 c = search needs
-
-returns-4 : tie.Need-returns-4
-returns-4 c = search needs
-
 pub guess-spec : {M : Type 1} → statement M
-guess-spec =
-    tie.close
-    (tie.spec
-    add-bits
-    mul-bits
-    add-bits-2
-    float-from-bits-u
-    sub-y0
-    float-from-bits-y0
-    float-to-bits-b
-    sub-result
-    returns
-    returns-2
-    returns-3
-    returns-4)
+guess-spec = tie.close (tie.spec sub-z0 float-from-bits-z0 add-big mul-big add-big-2 float-from-bits-big returns)

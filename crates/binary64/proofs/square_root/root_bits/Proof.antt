@@ -1,39 +1,21 @@
--- `binary64::square_root::root_bits` meets its contract: a normal value is m * 2 ^ p units (`normal`), and a subnormal one is moved up until it has 53 binary digits (`subnormal`). The loop's invariant: m is `bits` with k zeros after it. Assumes nothing.
+-- `binary64::square_root::root_bits` meets its contract: a normal value is m * 2 ^ p units (`normal`), and a subnormal one is moved up until it has
+-- 53 binary digits (`subnormal`). The loop's invariant: m is `bits` with k zeros after it. Assumes nothing.
 use mathlib.Core.Path.{_≡_, sym, ap, _∙_, subst}
-use Prim.Native.Nat.{ℕ, zero, suc, _+_, _-_, _*_, _/_, _%_, _^_, _≤_, _<_}
-use native.Mathlib.Nat.{mul-assoc, mul-one, mul-pos, mul-le-mul-right, lt-of-not-le, div-lt-iff-lt-mul}
+use Prim.Native.Nat.{ℕ, _+_, _-_, _*_, _/_, _%_, _^_, _≤_, _<_}
+use native.Mathlib.Nat.{mul-assoc, mul-one, mul-le-mul-right, lt-of-not-le}
 use native.Mathlib.Omega.{arith}
 use mathlib.Core.Bool.{false}
-use lib.Pow.{pow-add, pow-pos, pow-mono}
-use lib.Bits.{bitAnd, and-mask, mask-lt}
-use lib.Ieee.{binary64, ofBits, ofFields}
+use lib.Pow.{pow-add, pow-mono}
+use lib.Bits.{mask-lt}
+use lib.Ieee.{binary64, ofBits}
 use lib.Ieee.Exact.{HasValue}
 use Rattle.binary64.specs.Root.{root, rootUnits}
-use Rattle.binary64.proofs.Decode.{clear, fields-low, fields-mid, root-value}
+use Rattle.binary64.proofs.Decode.{clear, fields-low, root-value}
+use Rattle.binary64.proofs.RootBits.{normal}
 use Rattle.binary64.proofs.square_root.root_bits.Statement.{statement}
 use Rattle.binary64.proofs.square_root.root_bits.Tie as tie
 
--- ---- a normal value
-normal : (b : ℕ) → 0 < b / 2 ^ 52 → b < 0x7ff0_0000_0000_0000 → root (ofBits binary64 b) ≡ rootUnits ((bitAnd b 0xf_ffff_ffff_ffff + 2 ^ 52) * 2 ^ (b / 2 ^ 52 + 1073))
-normal b h l = go (b / 2 ^ 52) h (div-lt-iff-lt-mul (pow-pos 52) .1 l) (clear b (omega arith))
-  where
-    t : ℕ
-    t = b % 2 ^ 52
-
-    go : (x : ℕ) → 0 < x → x < 2047 → ofBits binary64 b ≡ ofFields binary64 false x t → root (ofBits binary64 b) ≡ rootUnits ((bitAnd b 0xf_ffff_ffff_ffff + 2 ^ 52) * 2 ^ (x + 1073))
-    go zero h l e = absurd (omega arith)
-    go (suc x) h l e =
-        ap root e
-        ∙ root-value (ofFields binary64 false (suc x) t) ((2 ^ 52 + t) * 2 ^ x) (fields-mid false x t l) (mul-pos (omega arith) (pow-pos x))
-        ∙ ap rootUnits (mul-assoc (2 ^ 52 + t) (2 ^ x) (2 ^ 1074) ∙ ap (λ (y : ℕ). (2 ^ 52 + t) * y) (sym (pow-add 2 x 1074) ∙ ap (λ (y : ℕ). 2 ^ y) (turn x)) ∙ ap (λ (y : ℕ). y * 2 ^ (suc x + 1073)) (flip t ∙ ap (λ (y : ℕ). y + 2 ^ 52) (sym (and-mask b 52))))
-      where
-        turn : (x : ℕ) → x + 1074 ≡ suc x + 1073
-        turn x = omega arith
-
-        flip : (t : ℕ) → 2 ^ 52 + t ≡ t + 2 ^ 52
-        flip t = omega arith
-
--- ---- a subnormal one, which is b units
+-- a subnormal value is b units
 subnormal : (b k m : ℕ) → 0 < b → b / 2 ^ 52 ≡ 0 → m ≡ b * 2 ^ k → k ≤ 1074 → root (ofBits binary64 b) ≡ rootUnits (m * 2 ^ (1074 - k))
 subnormal b k m p z e l =
     let small : b % 2 ^ 52 ≡ b = omega arith in
