@@ -2,22 +2,24 @@
 use mathlib.Core.Path.{_≡_, refl, sym, ap, ap₂, _∙_}
 use mathlib.Core.Bool.{Bool, true, not}
 use mathlib.Core.List.{List}
-use Prim.Native.Nat.{ℕ, _+_, _-_, _*_, _/_, _%_, _^_, _≤_, _<_}
+use Prim.Native.Nat.{ℕ, _+_, _-_, _*_, _/_, _^_, _≤_, _<_}
 use native.Mathlib.Nat.{le-trans, lt-of-le-of-lt, le-add-right, mul-le-mul}
 use native.Mathlib.Omega.{arith}
 use lib.Dec.{leb, leb→le, le→leb, lit<}
 use lib.IntN.{ℤ}
+use lib.Bits.{bitOr}
 use borrow.Author.Tests.{le-leb}
 use Rattle.binary64.specs.Root.{floorRoot}
+use Rattle.binary64.proofs.BitTests.{or-le}
 use Rattle.sets.proofs.Tests.{same-T}
 use Rattle.wide.proofs.Floor.{greatest-root}
 use Rattle.screen.specs.Pair.{gap, baseline, squared, passes, timeAt, siteAt, clash}
 
 -- ---- the gap's side
 
--- the millimetres that light goes in g picoseconds, rounded up, as the code finds them
+-- the millimetres that light goes in g picoseconds, rounded up
 abbrev pub lightIn : ℕ → ℕ
-lightIn g = g / 10 ^ 9 * 299_792_458 + (g % 10 ^ 9 * 299_792_458 + 10 ^ 9 - 1) / 10 ^ 9
+lightIn g = (g * 299_792_458 + 999_999_999) / 10 ^ 9
 
 enough : (g b : ℕ) → lightIn g ≤ b + 1_000_000 → g * 299_792_458 ≤ (b + 1_000_000) * 10 ^ 9
 enough g b h = omega arith
@@ -41,6 +43,18 @@ root-reaches t n =
     same-T (leb (t * t) n) (leb t (floorRoot n))
     (λ h. le→leb t (floorRoot n) (greatest-root n .greatest t (leb→le (t * t) n h)))
     (λ h. let l = leb→le t (floorRoot n) h in le→leb (t * t) n (le-trans (mul-le-mul l l) (greatest-root n .not-above)))
+
+-- four numbers whose bits together are those of a number below 2 ^ 31
+pub all-below : (x y z t : ℕ) → bitOr (bitOr (bitOr x y) z) t < 2 ^ 31 → (x < 2 ^ 31) × (y < 2 ^ 31) × (z < 2 ^ 31) × (t < 2 ^ 31)
+all-below x y z t h =
+    let a = or-le (bitOr (bitOr x y) z) t in
+    let b = or-le (bitOr x y) z in
+    let c = or-le x y in
+    (omega arith, omega arith, omega arith, omega arith)
+
+-- the square of a number below 2 ^ 31
+pub small-square : (d : ℕ) → d < 2 ^ 31 → d * d ≤ 2 ^ 62
+small-square d l = let h : d ≤ 2 ^ 31 = omega arith in mul-le-mul h h
 
 -- one axis alone may
 pub axis-reaches : (t x n : ℕ) → t ≤ x → x * x ≤ n → true ≡ leb t (floorRoot n)

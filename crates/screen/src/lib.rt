@@ -1,7 +1,7 @@
 // The feasibility screen: `screen` of solve.rs.
 ghost use mathlib.Core.Path.{_≡_};
 ghost use mathlib.Core.Bool.{true, cond};
-ghost use Prim.Native.Nat.{ℕ, _+_, _-_, _*_, _^_, _≤_, _<_};
+ghost use Prim.Native.Nat.{ℕ, _+_, _-_, _*_, _/_, _^_, _≤_, _<_};
 ghost use lib.Dec.{leb};
 ghost use lib.IntN.{pos};
 ghost use lib.ListN.{getD, length};
@@ -23,27 +23,43 @@ const LIGHT_MM: u64 = 299_792_458;
 
 const LIGHT_PS: u64 = 1_000_000_000;
 
+// What light goes in `gap` picoseconds, rounded up to a millimetre.
+fn light_in(gap: u64) -> u64
+    ensures { λ r. ⌜ r ≡ (gap * 299_792_458 + 999_999_999) / 10 ^ 9 ⌝ }
+{
+    // up to 34 ms the product fits a word
+    if gap < 0x8_0000_0000 {
+        return (gap * LIGHT_MM + LIGHT_PS - 1) / LIGHT_PS;
+    }
+    // whole 10^9 ps apart from the rest, so that each product does
+    let rest = gap % LIGHT_PS * LIGHT_MM;
+    gap / LIGHT_PS * LIGHT_MM + (rest + LIGHT_PS - 1) / LIGHT_PS
+}
+
 // The least baseline with which a pair passes whose times are `gap` apart: what light goes in that
 // time, rounded up, less the margin.
 fn least_baseline(gap: u64) -> u64
     ensures { λ r. ⌜ ((b : ℕ) → pair.passes gap b ≡ leb r b) × (r < 2 ^ 63) ⌝ }
 {
-    // whole 10^9 ps apart from the rest, so that each product fits a word
-    let rest = gap % LIGHT_PS * LIGHT_MM;
-    let light = gap / LIGHT_PS * LIGHT_MM + (rest + LIGHT_PS - 1) / LIGHT_PS;
+    let light = light_in(gap);
     if light < SCREEN_MARGIN_MM {
         return 0;
     }
     light - SCREEN_MARGIN_MM
 }
 
-// Whether two sites x, y and z apart along the axes have a baseline of `least` or more. One axis
-// alone may reach that far. No root is taken: the floored root of a number is at least `least`
-// where the number is at least the square of `least`, and nowhere else.
+// Whether two sites x, y and z apart along the axes have a baseline of `least` or more. No root is
+// taken: the floored root of a number is at least `least` where the number is at least the square of
+// `least`, and nowhere else.
 fn reaches(x: u64, y: u64, z: u64, least: u64) -> bool
     requires { ⌜ least < 2 ^ 63 ⌝ }
     ensures { λ r. ⌜ r ≡ leb least (floorRoot (x * x + y * y + z * z)) ⌝ }
 {
+    // up to 2,147 km the squares fit a word
+    if (x | y | z | least) < 0x8000_0000 {
+        return least * least <= x * x + y * y + z * z;
+    }
+    // one axis alone may reach that far; where none does, the squares fit two words
     if least <= x {
         return true;
     }

@@ -5,27 +5,14 @@ use Rattle.screen.proofs.Reach.{passes-from}
 use Rattle.screen.proofs.least_baseline.Statement.{statement}
 use Rattle.screen.proofs.least_baseline.Tie as tie
 
-mul-rest : tie.Need-mul-rest
-mul-rest c = search needs
-
-mul-light : tie.Need-mul-light
-mul-light c = search needs
-
-add-light : tie.Need-add-light
-add-light c = search needs
-
-sub-light : tie.Need-sub-light
-sub-light c = search needs
-
-add-light-2 : tie.Need-add-light-2
-add-light-2 c = search needs
+light-in-requires : tie.Need-light-in-requires
+light-in-requires c κs = search needs
 
 returns : tie.Need-returns
-returns c = (passes-from (c .before .args .gap) 0 (omega arith), omega arith)
+returns c = (passes-from (c .before .before .args .gap) 0 (omega arith), omega arith)
 
 returns-2 : tie.Need-returns-2
-returns-2 c = (passes-from (c .before .args .gap) _ (omega arith), omega arith)
+returns-2 c = (passes-from (c .before .before .args .gap) _ (omega arith), omega arith)
 
 pub least-baseline-spec : {M : Type 1} → statement M
-least-baseline-spec =
-    tie.close (tie.spec mul-rest mul-light add-light sub-light add-light-2 returns returns-2)
+least-baseline-spec = tie.close (tie.spec light-in-requires returns returns-2)
