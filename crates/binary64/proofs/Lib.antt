@@ -13,6 +13,7 @@ pub mod HalfLaw
 pub mod Nearer
 pub mod RootDigits
 pub mod RootBits
+pub mod Filled
 pub mod Held
 pub mod Meaning
 pub mod Edges

@@ -4,6 +4,7 @@ mod rounding;
 mod square_root;
 
 pub use rounding::round;
+pub use square_root::roots;
 pub use square_root::sqrt;
 ghost use mathlib.Core.Path.{_≡_};
 ghost use lib.Ieee.{binary64, toBits};

@@ -1,8 +1,9 @@
-// The square root of an f64, from the bits of its argument.
+// The square root of an f64, from the bits of its argument; and of several at once.
 ghost use mathlib.Core.Path.{_≡_};
-ghost use Prim.Native.Nat.{_+_, _*_, _/_, _^_, _<_, _≤_};
-ghost use lib.Ieee.{binary64, ofBits};
-ghost use Rattle.binary64.specs.Root.{root, rootUnits, Nearest};
+ghost use Prim.Native.Nat.{ℕ, _+_, _*_, _/_, _^_, _<_, _≤_};
+ghost use lib.ListN.{getD, length};
+ghost use lib.Ieee.{nan, binary64, ofBits};
+ghost use Rattle.binary64.specs.Root.{root, rootUnits, rootsTo, Nearest};
 use crate::DIGITS;
 use crate::INFINITY;
 use crate::LEAD;
@@ -179,4 +180,60 @@ pub fn sqrt(x: f64) -> f64
         }
     }
     halved(x)
+}
+
+// A guess of each root: nothing is promised of it, but that the rest of out stays.
+fn guesses(d: &[f64; 32], k: usize, out: &mut [f64; 32])
+    requires { ⌜ k ≤ 32 ⌝ }
+    ensures { λ _. ⌜ (length (now (out .exit)) ≡ length (now (out .entry)))
+        × ((i : ℕ) → k ≤ i → getD (now (out .exit)) i nan ≡ getD (now (out .entry)) i nan) ⌝ }
+{
+    for i in 0..k {
+        let x = d[i];
+        out[i] = guess(x, bits_of(x) % SIGN);
+    }
+}
+
+// 0 only where s is the root of x.
+fn unlike(x: f64, s: f64) -> u64
+    ensures { λ r. ⌜ (r ≡ 0 → s ≡ root x) ⌝ }
+{
+    let bits = bits_of(x);
+    // 0 where x lies from 2^-511 up to 2^513, so that it is normal
+    let outside = (((bits >> 52) + 512) >> 10) ^ 1;
+    outside | off(bits, bits_of(s))
+}
+
+// 0 only where out has the roots of the first k of d.
+fn wrong(d: &[f64; 32], k: usize, out: &[f64; 32]) -> u64
+    requires { ⌜ k ≤ 32 ⌝ }
+    ensures { λ r. ⌜ (r ≡ 0 → (i : ℕ) → i < k → getD (now (out .entry)) i nan ≡ root (getD (now (d .entry)) i nan)) ⌝ }
+{
+    let mut bad = 0u64;
+    for i in 0..k {
+        bad = bad | unlike(d[i], out[i]);
+    }
+    bad
+}
+
+// The roots of the first k of d, one by one.
+fn each(d: &[f64; 32], k: usize, out: &mut [f64; 32])
+    requires { ⌜ k ≤ 32 ⌝ }
+    ensures { λ _. ⌜ now (out .exit) ≡ rootsTo (now (d .entry)) (now (out .entry)) k ⌝ }
+{
+    for i in 0..k {
+        out[i] = sqrt(d[i]);
+    }
+}
+
+// The roots of the first k of d, into out. The guesses and their checks have no branch, so that the
+// processor takes several side by side; where any fails, each root is taken by itself.
+pub fn roots(d: &[f64; 32], k: usize, out: &mut [f64; 32])
+    requires { ⌜ k ≤ 32 ⌝ }
+    ensures { λ _. ⌜ now (out .exit) ≡ rootsTo (now (d .entry)) (now (out .entry)) k ⌝ }
+{
+    guesses(d, k, &mut *out);
+    if wrong(d, k, &*out) > 0 {
+        each(d, k, &mut *out);
+    }
 }

@@ -1,4 +1,5 @@
 pub mod Costs
 pub mod Turns
 pub mod Joined
+pub mod Ranges
 pub mod Meaning

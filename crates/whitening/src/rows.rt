@@ -5,6 +5,7 @@ ghost use Prim.Native.Nat.{_+_, _≤_, _<_};
 ghost use lib.ListN.{length, replicate, set};
 ghost use Rattle.dense.specs.Solve.{forward};
 ghost use mathlib.Core.List.{[]};
+ghost use Rattle.binary64.specs.Root.{root};
 ghost use Rattle.binary64.specs.Steps.{nought};
 ghost use Rattle.whitening.specs.Whitened.{rangeAt, residual, fillTo, raw, rangesTo, placeOf, pushAltitude, blank, chosen, rows, whitened};
 ghost use Rattle.whitening.specs.Normal.{costTo};
@@ -35,6 +36,28 @@ pub fn residual(sites: &[f64; 96], z: &[f64; 32], i: usize, p: [f64; 4]) -> f64
     z[i] - p[3] - range(sites, i, p)
 }
 
+// The square of a reception's range.
+fn squared_range(sites: &[f64; 96], i: usize, p: [f64; 4]) -> f64
+    requires { ⌜ i < 32 ⌝ }
+    ensures { λ r. ⌜ root r ≡ rangeAt (now (sites .entry)) p i ⌝ }
+{
+    let x = [p[0], p[1], p[2]];
+    let delta = linalg::sub(x, problem::site(sites, i));
+    linalg::dot(delta, delta)
+}
+
+// The ranges of k receptions, their roots taken together.
+fn ranges_of(sites: &[f64; 96], k: usize, p: [f64; 4], ranges: &mut [f64; 32])
+    requires { ⌜ k ≤ 32 ⌝ }
+    ensures { λ _. ⌜ now (ranges .exit) ≡ fillTo (rangeAt (now (sites .entry)) p) (now (ranges .entry)) k ⌝ }
+{
+    let mut squared = [0.0; 32];
+    for i in 0..k {
+        squared[i] = squared_range(sites, i, p);
+    }
+    binary64::roots(&squared, k, &mut *ranges);
+}
+
 // The raw residuals of k receptions, and their ranges.
 fn raw_residuals(
     sites: &[f64; 96],
@@ -44,14 +67,13 @@ fn raw_residuals(
     r: &mut [f64; 33],
     ranges: &mut [f64; 32],
 )
-    requires { ⌜ k ≤ 32 ⌝ }
+    requires { ⌜ (k ≤ 32) × (k ≤ length (now ranges)) ⌝ }
     ensures { λ _. ⌜ now (r .exit) ≡ fillTo (raw (now (sites .entry)) (now (z .entry)) p 0) (now (r .entry)) k ⌝ }
     ensures { λ _. ⌜ now (ranges .exit) ≡ fillTo (rangeAt (now (sites .entry)) p) (now (ranges .entry)) k ⌝ }
 {
+    ranges_of(sites, k, p, &mut *ranges);
     for i in 0..k {
-        let far = range(sites, i, p);
-        ranges[i] = far;
-        r[i] = z[i] - p[3] - far;
+        r[i] = z[i] - p[3] - ranges[i];
     }
 }
 

@@ -1,31 +1,30 @@
--- `whitening::rows::raw_residuals` meets its contract. The invariant: both arrays are filled below i. The measure is what is left of k. Assumes nothing.
+-- `whitening::rows::raw_residuals` meets its contract. The invariant: the residuals are filled below i, from the ranges that stand below k
+-- (`fill-at`). The measure is what is left of k. Assumes nothing.
 use borrow.Author.Needs.{needs}
-use mathlib.Core.Path.{_≡_, refl}
+use mathlib.Core.Path.{_≡_, refl, ap, _∙_}
+use mathlib.Core.List.{List}
 use Prim.Native.Nat.{_≤_, _-_}
 use native.Mathlib.Numerals.{add-one}
 use native.Mathlib.Omega.{arith}
+use lib.Ieee.{Float}
+use Rattle.dense.specs.Entries.{nth}
 use Rattle.whitening.specs.Whitened.{rangeAt, residual, rawRow, raw, fillTo}
+use Rattle.whitening.proofs.Costs.{fill-at}
 use Rattle.whitening.proofs.rows.raw_residuals.Statement.{statement}
 use Rattle.whitening.proofs.rows.raw_residuals.Tie as tie
 
 abbrev Inv-loop : tie.InvT-loop
-Inv-loop sites z k r₀ ranges₀ p i₀ r ranges i = (i ≤ k) × (r ≡ fillTo (raw sites z p 0) r₀ i) × (ranges ≡ fillTo (rangeAt sites p) ranges₀ i)
+Inv-loop sites z k r₀ ranges p i₀ r i = (i ≤ k) × (r ≡ fillTo (raw sites z p 0) r₀ i)
 
 abbrev μ-loop : tie.MeasureT-loop
-μ-loop sites z k r₀ ranges₀ p i₀ r ranges i = k - i
+μ-loop sites z k r₀ ranges p i₀ r i = k - i
+
+ranges-of-requires : tie.Need-ranges-of-requires Inv-loop μ-loop
+ranges-of-requires c κs = search needs
 
 loop-holds : tie.Need-loop-holds Inv-loop μ-loop
 unfolding fillTo
-loop-holds c = (omega arith, refl, refl)
-
-range-requires : tie.Need-range-requires Inv-loop μ-loop
-range-requires c κs = search needs
-
-mul-ranges : tie.Need-mul-ranges Inv-loop μ-loop
-mul-ranges c = search needs
-
-element-write-ranges : tie.Need-element-write-ranges Inv-loop μ-loop
-element-write-ranges c = search needs
+loop-holds c = (omega arith, refl)
 
 mul-r : tie.Need-mul-r Inv-loop μ-loop
 mul-r c = search needs
@@ -39,6 +38,12 @@ array-read-r c = search needs
 mul-r-2 : tie.Need-mul-r-2 Inv-loop μ-loop
 mul-r-2 c = search needs
 
+element-copy-out-r-2 : tie.Need-element-copy-out-r-2 Inv-loop μ-loop
+element-copy-out-r-2 c = search needs
+
+mul-r-3 : tie.Need-mul-r-3 Inv-loop μ-loop
+mul-r-3 c = search needs
+
 element-write-r : tie.Need-element-write-r Inv-loop μ-loop
 element-write-r c = search needs
 
@@ -50,13 +55,21 @@ loop-less c = search needs
 
 loop-again : tie.Need-loop-again Inv-loop μ-loop
 unfolding fillTo rawRow residual
-loop-again c = (omega arith, rw (add-one, ← c .before .before .before .loop .inv .1, c .before .range .ensures), rw (add-one, ← c .before .before .before .loop .inv .2, c .before .range .ensures))
+loop-again c =
+    let l = c .before .before .before .loop in
+    let called = c .before .before .before .before in
+    let s = called .before .before .args in
+    let f = rangeAt (s .sites .now) (s .t4) in
+    let far : nth (called .ranges-of .last .1 .1 .1 .0) (l .i) ≡ f (l .i) =
+    ap (λ (y : List Float). nth y (l .i)) (called .ranges-of .ensures)
+    ∙ fill-at f (s .ranges .now) (s .k) (l .i) (called .before .before .pre .1) (omega arith) in
+    (omega arith, rw (add-one, ← l .inv .1, far))
 
 returns : tie.Need-returns Inv-loop μ-loop
 returns c =
-    let v = c .before .loop .inv in
-    let all : c .before .loop .i ≡ c .before .before .args .k = omega arith in
-    (rw all at (v .1), rw all at (v .2))
+    let l = c .before .loop in
+    let all : l .i ≡ c .before .before .before .before .args .k = omega arith in
+    (rw all at (l .inv .1), c .before .before .ranges-of .ensures)
 
 pub raw-residuals-spec : {M : Type 1} → statement M
 raw-residuals-spec =
@@ -64,14 +77,14 @@ raw-residuals-spec =
     (tie.spec
     Inv-loop
     μ-loop
+    ranges-of-requires
     loop-holds
-    range-requires
-    mul-ranges
-    element-write-ranges
     mul-r
     element-copy-out-r
     array-read-r
     mul-r-2
+    element-copy-out-r-2
+    mul-r-3
     element-write-r
     add-i
     loop-less

@@ -1,7 +1,7 @@
 -- `whitening::rows::residuals` meets its contract. The promises of `raw_residuals`, `forward` and `squares`, put together. Assumes nothing.
 use borrow.Author.Needs.{needs}
 use mathlib.Core.Path.{_≡_, sym, ap, subst, _∙_}
-use Prim.Native.Nat.{_<_}
+use Prim.Native.Nat.{_≤_, _<_}
 use mathlib.Core.List.{List}
 use native.Mathlib.Omega.{arith}
 use denote.Ref.{now}
@@ -15,7 +15,9 @@ use Rattle.whitening.proofs.rows.residuals.Statement.{statement}
 use Rattle.whitening.proofs.rows.residuals.Tie as tie
 
 raw-residuals-requires : tie.Need-raw-residuals-requires
-raw-residuals-requires c κs = search needs
+raw-residuals-requires c κs =
+    let s = c .before .before in
+    (s .pre .0, subst (λ (y : List Float). s .args .k ≤ length y) (sym (s .pre .2)) (s .pre .0))
 
 forward-requires : tie.Need-forward-requires
 forward-requires c κs = (omega (arith, room (c .before .before .before .before .before .args .k) (omega arith), (c .before), c), omega (arith, (c .before), c))

@@ -1,0 +1,70 @@
+-- `whitening::rows::ranges_of` meets its contract. The invariant: the entries below i are squares of ranges. Their roots are the ranges
+-- (`roots-fill`). The measure is what is left of k. Assumes nothing.
+use borrow.Author.Needs.{needs}
+use mathlib.Core.Path.{_≡_, _∙_}
+use Prim.Native.Nat.{_≤_, _<_, _-_}
+use native.Mathlib.Omega.{arith}
+use lib.ListN.{length, length-set, length-replicate}
+use Rattle.binary64.specs.Steps.{nought}
+use Rattle.whitening.specs.Whitened.{rangeAt}
+use Rattle.whitening.proofs.Ranges.{Squared, one-more, roots-fill}
+use Rattle.whitening.proofs.rows.ranges_of.Statement.{statement}
+use Rattle.whitening.proofs.rows.ranges_of.Tie as tie
+
+abbrev Inv-loop : tie.InvT-loop
+Inv-loop sites k p ranges squared₀ i₀ squared i = (i ≤ k) × (length squared ≡ 32) × Squared squared (rangeAt sites p) i
+
+abbrev μ-loop : tie.MeasureT-loop
+μ-loop sites k p ranges squared₀ i₀ squared i = k - i
+
+loop-holds : tie.Need-loop-holds Inv-loop μ-loop
+loop-holds c = (omega arith, length-replicate 32 nought, λ j h. absurd (omega arith))
+
+squared-range-requires : tie.Need-squared-range-requires Inv-loop μ-loop
+squared-range-requires c κs = search needs
+
+mul-squared : tie.Need-mul-squared Inv-loop μ-loop
+mul-squared c = search needs
+
+array-write-squared : tie.Need-array-write-squared Inv-loop μ-loop
+array-write-squared c = search needs
+
+add-i : tie.Need-add-i Inv-loop μ-loop
+add-i c = search needs
+
+loop-less : tie.Need-loop-less Inv-loop μ-loop
+loop-less c = search needs
+
+loop-again : tie.Need-loop-again Inv-loop μ-loop
+loop-again c =
+    let l = c .before .before .loop in
+    let s = c .before .before .before .args in
+    let here : l .i < length (l .squared) = omega arith in
+    let next = one-more (l .squared) (rangeAt (s .sites .now) (s .p)) (l .i) _ here (l .inv .2) (c .squared-range .ensures) in
+    (omega arith, length-set (l .squared) (l .i) _ ∙ l .inv .1, next)
+
+roots-requires : tie.Need-roots-requires Inv-loop μ-loop
+roots-requires c κs = search needs
+
+returns : tie.Need-returns Inv-loop μ-loop
+returns c =
+    let l = c .before .before .before .before .loop in
+    let s = c .before .before .before .before .before .args in
+    let all : l .i ≡ s .k = omega arith in
+    c .roots .ensures ∙ roots-fill (l .squared) (s .ranges .now) (rangeAt (s .sites .now) (s .p)) (s .k) (rw all at (l .inv .2))
+
+pub ranges-of-spec : {M : Type 1} → statement M
+ranges-of-spec =
+    tie.close
+    (tie.spec
+    Inv-loop
+    μ-loop
+    loop-holds
+    squared-range-requires
+    mul-squared
+    array-write-squared
+    add-i
+    loop-less
+    loop-again
+    roots-requires
+    returns)
