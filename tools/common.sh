@@ -1,31 +1,81 @@
-# What the scripts of compare/, bench/ and oracle/ share. Sourced by each as its first step:
+# What the repository's scripts share. Each sources it as its first step, those of compare/, bench/, oracle/ and tools/ by
 #     . "$(dirname "$0")/../tools/common.sh"
 # POSIX sh. It sets root, the folder of the repository.
-root=$(cd "$(dirname "$0")/.." && pwd)
-mkdir -p "$root/target/log"
 
-# Prints the script's first comment and ends.
+# Numbers have a point, whatever the locale; `cd` goes where it is told and says nothing.
+LC_ALL=C
+export LC_ALL
+unset CDPATH
+here=$(dirname "$(readlink -f "$0" 2>/dev/null || echo "$0")")
+[ -f "$here/crates.txt" ] || here=$here/..
+root=$(cd "$here" && pwd)
+
+# However the script ends, by itself, a signal or a closed pipe: no prover, lock or temporary folder is left.
+prover='' lock='' room='' work=''
+ended() {
+    [ -z "$prover" ] || kill -s TERM -- "-$prover" 2>/dev/null || :
+    [ -z "$lock" ] || rm -f "$lock"
+    [ -z "$room" ] || rm -rf "$room"
+    [ -z "$work" ] || rm -rf "$work"
+}
+trap ended EXIT
+trap 'exit 129' HUP
+trap 'exit 130' INT
+trap 'exit 141' PIPE
+trap 'exit 143' TERM
+
+# scratch: sets work, a temporary folder that goes when the script ends.
+scratch() { work=$(mktemp -d); }
+
+# Prints the script's first comment and ends: as an answer, or since it was called in another way.
+helped() {
+    sed -n -e '2s/^# /usage: /p' -e '3,/^[^#]/s/^# //p' "$0"
+    exit 0
+}
 usage() {
-    sed -n -e '2s/^# /usage: /p' -e '3,/^[^#]/s/^# //p' "$0" >&2
+    (helped) >&2
     exit 2
 }
 
-# need COMMAND..: the commands, and the kit's, are on the PATH.
+# problem FOLDER: a folder that can be read, with one of a problem's four files or more in it.
+problem() {
+    if [ ! -d "$1" ]; then
+        echo "$0: there is no folder $1" >&2
+        exit 2
+    fi
+    if [ ! -r "$1" ] || [ ! -x "$1" ]; then
+        echo "$0: the folder $1 cannot be read" >&2
+        exit 2
+    fi
+    for name in receptions clock altitude reference; do
+        [ ! -e "$1/$name.bin" ] || return 0
+    done
+    echo "$0: $1 has none of receptions.bin, clock.bin, altitude.bin and reference.bin" >&2
+    exit 2
+}
+
+# need COMMAND..: the commands, and the kit's, are on the PATH, and target/ can be written.
 need() {
     for command in rt "$@"; do
         if ! command -v "$command" >/dev/null 2>&1; then
+            [ "$command" != rt ] || command="the Rattle kit's command rt"
             echo "$0: $command is not on the PATH" >&2
             exit 2
         fi
     done
+    if ! mkdir -p "$root/target/log" 2>/dev/null || [ ! -w "$root/target/log" ]; then
+        echo "$0: $root/target cannot be written, and what is proved and built goes there" >&2
+        exit 2
+    fi
 }
 
-# numbers MOST WORD..: whole numbers, MOST of them at most, or the usage.
+# numbers MOST WORD..: whole numbers above 0, of up to twelve digits, MOST of them at most, or the usage.
 numbers() {
     [ $# -le $(($1 + 1)) ] || usage
     shift
     for word in "$@"; do
-        case $word in '' | *[!0-9]*) usage ;; esac
+        case $word in '' | *[!0-9]* | ?????????????*) usage ;; esac
+        case $word in *[1-9]*) ;; *) usage ;; esac
     done
 }
 
@@ -60,11 +110,91 @@ library() {
     folder=${2:-.}
     # shellcheck disable=SC2046
     stale "$folder/target/staticlib/lib$1.a" "$folder/crates.txt" $(uses "$folder" "$1") || return 0
-    echo "$0: proving and building $1; from nothing it takes some minutes" >&2
-    if ! (cd "$folder" && rt staticlib "$1") >"target/log/staticlib.$1" 2>&1; then
-        cat "target/log/staticlib.$1" >&2
+    proving "$folder" staticlib "$1"
+}
+
+# program NAME: proves and builds the program NAME of the repository, where it is older than its files.
+program() {
+    # shellcheck disable=SC2046
+    stale "target/bin/$1" crates.txt $(uses . "$1") || return 0
+    need
+    # what rt takes for proved it does not build again
+    [ -f "target/bin/$1" ] || rm -f "target/stamp/$1"
+    proving . check "$1"
+    if [ ! -x "target/bin/$1" ]; then
+        echo "$0: rt check $1 gave no $root/target/bin/$1" >&2
         exit 1
     fi
+    # rt goes by what files hold: one that only looks newer needs no proof the next time
+    touch "target/bin/$1"
+}
+
+# alone FOLDER: has FOLDER's target/ to this script, once no other has it. The lock is a link to the number of its process.
+alone() {
+    waits=
+    mkdir -p "$1/target/log"
+    while ! ln -s "$$" "$1/target/proving" 2>/dev/null; do
+        other=$(readlink "$1/target/proving") || continue
+        if [ ! -d "/proc/$other" ] && ! kill -0 "$other" 2>/dev/null; then
+            rm -f "$1/target/proving"
+            continue
+        fi
+        [ -n "$waits" ] || echo "$0: waiting for process $other, which proves or builds here" >&2
+        waits=yes
+        sleep 1
+    done
+    lock=$1/target/proving
+}
+
+# shared: gives up what `alone` took.
+shared() {
+    rm -f "$lock"
+    lock=
+}
+
+# proving FOLDER COMMAND CRATE..: `rt COMMAND CRATE..` in FOLDER. Each crate that is proved anew is said on standard error, as
+# '7 of 21: geo, 13 s'; where rt fails, all that it said is.
+proving() {
+    where=$1
+    shift
+    echo "$0: proving and building $(shift && echo "$*")" >&2
+    alone "$where"
+    said=$where/target/log/proving
+    : >"$said"
+    all=$(shift && uses "$where" "$@" | wc -l | tr -d ' ')
+    # rt's own temporary folders go here; it runs programs as nobody, who has to get in
+    room=$(mktemp -d)
+    chmod 755 "$room"
+    (cd "$where" && TMPDIR=$room exec setsid rt "$@") >"$said" 2>&1 &
+    prover=$!
+    told=0
+    while kill -0 "$prover" 2>/dev/null; do
+        tell
+        sleep 1
+    done
+    status=0
+    wait "$prover" || status=$?
+    prover=
+    tell
+    rm -rf "$room"
+    room=
+    if [ "$status" -ne 0 ]; then
+        cat "$said" >&2
+        exit 1
+    fi
+    shared
+}
+
+# tell: what `proving` has to say since it last did.
+tell() {
+    heard=$(grep -c '^rt: [a-z0-9_]* proved (' "$said" || :)
+    awk -v all="$all" -v told="$told" -v heard="$heard" '
+        /^rt: [a-z0-9_]+ proved \(/ { k++ }
+        /^rt: [a-z0-9_]+ proved \([0-9]+ s\)$/ && k > told && k <= heard {
+            printf "%d of %d: %s, %d s\n", k, all, $2, substr($4, 2)
+        }
+    ' "$said" >&2
+    told=$heard
 }
 
 # c_names FOLDER FILES NAME DEP..: inner functions under C names, as a static library. It is the crate NAME, whose files are those below FILES/NAME with .txt at
@@ -74,11 +204,7 @@ c_names() {
     shift 3
     # shellcheck disable=SC2046
     stale "$to/target/staticlib/lib$name.a" crates.txt "$files/$name" $(uses . "$@") || return 0
-    echo "$0: proving what $name uses; from nothing it takes some minutes" >&2
-    if ! rt check "$@" >"target/log/check.$name" 2>&1; then
-        cat "target/log/check.$name" >&2
-        exit 1
-    fi
+    proving . check "$@"
     rm -rf "$to/crates" "$to/target"
     mkdir -p "$to/crates" "$to/target/stamp" "$to/target/rlib"
     for path in $(uses . "$@"); do
