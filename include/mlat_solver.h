@@ -1,5 +1,11 @@
-/* The functions that Jifrosk's static library opens to callers. Each takes every value, demands nothing and keeps no state. What a
-   comment promises is proved of the code; `double` is IEEE 754's binary64. All not-a-numbers count as one value. */
+/* The functions that Jifrosk's static library opens to callers. Each takes every value and keeps no state: any number of
+   calls may run side by side. What a comment promises is proved of the code; `double` is IEEE 754's binary64. All
+   not-a-numbers count as one value.
+
+   Pointers. One with a length lends that many entries (bytes, doubles, uint64_t or structs), one to an array with its
+   size in brackets lends that array, any other one value. What is lent can be read, or written where it is not const,
+   for the whole of the call, and is aligned as its type asks; what a call writes overlaps nothing else that is lent to
+   it. Where a length is 0 nothing is read or written, and the pointer may be NULL. No call keeps a pointer. */
 #ifndef MLAT_SOLVER_H
 #define MLAT_SOLVER_H
 
@@ -10,9 +16,10 @@
 extern "C" {
 #endif
 
-/* Why a call gives nothing (docs/GUIDE.md says what to do about each): document 01 has 1 to 15, document 02 16 to 24. 0 is a fix, or a call
-   that was answered. The list is crates/refusals. */
+/* What a call answers: 0, or why it gives nothing (docs/GUIDE.md says what to do about each). Document 01 has 1 to 15,
+   document 02 16 to 24; the list is crates/refusals. */
 enum mlat_refusal {
+    MLAT_ANSWERED = 0, /* a fix, or a call that did what it was asked for */
     MLAT_TOO_FEW = 1,
     MLAT_NO_CONVERGENCE = 2,
     MLAT_OUT_OF_RANGE = 3,
@@ -41,7 +48,8 @@ enum mlat_refusal {
 
 /* ---- numbers */
 
-/* The binary64 nearest the exact square root, ties to even. -0 gives -0, any other negative number a not-a-number, infinity infinity. */
+/* The binary64 nearest the exact square root, ties to even. -0 gives -0, any other negative number a not-a-number,
+   infinity infinity. */
 double mlat_sqrt(double x);
 
 /* The nearest whole number, a half away from zero, with the sign of x. Infinities and not-a-numbers pass. */
@@ -61,51 +69,88 @@ double mlat_hypot(double x, double y);
 
 /* ---- geodesy */
 
-/* WGS 84: latitude and longitude in degrees and height above the ellipsoid in metres, geodetic[0] to [2], to Earth-centred Earth-fixed metres,
-   and back. Each entry of the array that is written is what geo.rs gives with fdlibm's functions, to the bit.
-   Every finite point has a latitude and a longitude but the centre of the earth, 0, 0, 0: its latitude is a
-   not-a-number. */
+/* WGS 84: latitude and longitude in degrees and height above the ellipsoid in metres, geodetic[0] to [2], to
+   Earth-centred Earth-fixed metres, and back. Each entry of the array that is written is what geo.rs gives with
+   fdlibm's functions, to the bit. Every finite point has a latitude and a longitude but the centre of the earth, 0, 0,
+   0: its latitude is a not-a-number. */
 void mlat_to_ecef(const double geodetic[3], double ecef[3]);
 void mlat_from_ecef(const double ecef[3], double geodetic[3]);
 
-/* The unit vectors east, north and up at a latitude and longitude, degrees, in ECEF: three after three. Each entry lies
-   from -1 to 1, ends included, for a latitude within 90 and a longitude within 180 either way, and at the place that
-   mlat_from_ecef gives of any finite point but the centre of the earth. */
+/* The unit vectors east, north and up at a latitude and longitude, degrees, in ECEF: three after three. Each entry
+   lies from -1 to 1, ends included, for a latitude within 90 and a longitude within 180 either way, and at the place
+   that mlat_from_ecef gives of any finite point but the centre of the earth. */
 void mlat_enu_basis(double lat_deg, double lon_deg, double basis[9]);
 
-/* ECEF metres to whole millimetres: a half away from zero, beyond an end of int64_t that end, 0 for a not-a-number; and back, by one division. */
+/* ECEF metres to whole millimetres: a half away from zero, beyond an end of int64_t that end, 0 for a not-a-number;
+   and back, by one division. */
 void mlat_to_mm(const double ecef[3], int64_t mm[3]);
 void mlat_from_mm(const int64_t mm[3], double ecef[3]);
 
 /* ---- claims: what a fix claims of itself */
 
-/* The chi-square value that the residuals of an exact optimum with dof degrees of freedom may reach, by the steps of solve.rs; 0 for a dof of 0. */
+/* The chi-square value that the residuals of an exact optimum with dof degrees of freedom may reach, by the steps of
+   solve.rs; 0 for a dof of 0. */
 double mlat_chi2_limit(uint32_t dof);
 
-/* A covariance in ECEF, three rows of three one after the other, in the local east, north, up frame at a position (as geodetic[3] above); and the
-   standard deviation of the horizontal position, metres, which is the root of half the variance of east and north. By the steps of solve.rs. */
+/* A covariance in ECEF, three rows of three one after the other, in the local east, north, up frame at a position (as
+   geodetic[3] above); and the standard deviation of the horizontal position, metres: the root of half the sum of the
+   variances of east and north. By the steps of solve.rs. */
 void mlat_enu_covariance(const double position[3], const double covariance[9], double enu[9]);
 double mlat_horizontal_sigma_m(const double position[3], const double covariance[9]);
 
 /* ---- solve */
 
-/* Solves one transmission's problem from the bytes of the four files, receptions, clock, altitude and reference, each with its length, and writes
-   the record of 176 bytes at the start of out. In `present` bit 0 says that there is a clock covariance, bit 1 an altitude, bit 2 a reference:
-   the bytes of an absent one are not read, and further bits mean nothing. Returns the answer number: 0 for a fix, 1 to 15 for a refusal. For 14,
-   where out_len is under 176, nothing is written; bytes past 176 never change. Answer and bytes are what the definition gives for every input;
-   the record of a problem (none of 7 and 10 to 15) is that of the one answer of which demand 3 holds (crates/rounds/specs/Demand.antt).
-   No pointer is NULL, and out overlaps none of the inputs.
-   The altitude's 16 bytes are its kind, 1 barometric or 2 GNSS; three zero bytes; an int32_t, what a station adds to
-   barometric metres, in centimetres, within 100,000 either way and 0 for GNSS; and the metres, a double, within 100,000
-   either way. The solve takes metres + correction / 100, and the metres themselves where the correction is 0; the
-   record shows the metres as given. Any other altitude is MLAT_BAD_FIELD with a detail of 200. */
-uint32_t mlat_solve(const uint8_t *receptions, size_t receptions_len, const uint8_t *clock, size_t clock_len, const uint8_t *altitude,
-                    size_t altitude_len, const uint8_t *reference, size_t reference_len, uint32_t present, uint8_t *out, size_t out_len);
+/* Which of the inputs clock, altitude and reference there are: the bits of `present`. Further bits mean nothing. */
+enum mlat_present {
+    MLAT_CLOCK = 1,
+    MLAT_ALTITUDE = 2,
+    MLAT_REFERENCE = 4
+};
+
+/* The bytes of a fix record. */
+#define MLAT_RECORD_BYTES 176
+
+/* A fix record on a little-endian machine: memcpy of its 176 bytes fills it. A refusal's has its number, detail and,
+   for 1 to 9, n, and zeros. */
+struct mlat_record {
+    uint32_t answer;         /* enum mlat_refusal */
+    uint32_t detail;         /* of a fix its degrees of freedom */
+    uint32_t n;              /* receptions considered */
+    uint32_t used;           /* bit i for reception i, from 0 */
+    double ecef_m[3];
+    double t_m;              /* time of transmission, metres of light */
+    double lat_deg, lon_deg; /* WGS 84 */
+    double height_m;         /* above the ellipsoid */
+    int64_t transmit_ps;
+    double covariance_m2[9]; /* of the ECEF place, by rows */
+    double chi2;
+    uint16_t version;        /* 8 */
+    uint8_t altitude_kind;   /* 0 none, 1 barometric, 2 GNSS */
+    uint8_t filler[5];       /* zero */
+    double altitude_m;       /* as it was given */
+};
+
+/* It has no padding: this does not compile where it has. */
+typedef char mlat_record_is_176_bytes[sizeof(struct mlat_record) == MLAT_RECORD_BYTES ? 1 : -1];
+
+/* Solves one transmission's problem from the bytes of the four files, receptions, clock, altitude and reference, each
+   with its length, and writes the record at the start of out. `present` says which of the last three there are: what
+   the bytes of an absent one are does not matter. Returns the answer number: 0 for a fix, 1 to 15 for a refusal. For
+   14, where out_len is under 176, nothing is written; bytes past 176 never change. Answer and bytes are what the
+   definition gives for every input; the record of a problem (none of 7 and 10 to 15) is that of the one answer of
+   which demand 3 holds (crates/rounds/specs/Demand.antt). The altitude's 16 bytes are its kind, 1 barometric or 2
+   GNSS; three zero bytes; an int32_t, what a station adds to barometric metres, in centimetres, within 100,000 either
+   way and 0 for GNSS; and the metres, a double, within 100,000 either way. The solve takes metres + correction / 100,
+   and the metres themselves where the correction is 0; the record shows the metres as given. Any other altitude is
+   MLAT_BAD_FIELD with a detail of 200. */
+uint32_t mlat_solve(const uint8_t *receptions, size_t receptions_len, const uint8_t *clock, size_t clock_len,
+                    const uint8_t *altitude, size_t altitude_len, const uint8_t *reference, size_t reference_len,
+                    uint32_t present, uint8_t *out, size_t out_len);
 
 /* A reception of a caller's own list, as C lays it out: 136 bytes, of which the four after epoch are padding and may
-   hold anything. In receptions.bin a reception has 132 bytes, the same fields in the same order without padding, so the
-   file is no list: it has to be unpacked. receiver, epoch, timestamp and message are its identity, `ObservationId` of
-   the source. Identities are ordered by these four in turn, the bytes of receiver and message as unsigned from the
+   hold anything. In receptions.bin a reception has 132 bytes, the same fields in the same order without padding, so
+   the file is no list: it has to be unpacked. receiver, epoch, timestamp and message are its identity, `ObservationId`
+   of the source. Identities are ordered by these four in turn, the bytes of receiver and message as unsigned from the
    first, epoch and timestamp as numbers; they are equal where every field is. Ties between receptions are decided by
    their places in the list, and so by their identities. */
 struct mlat_reception {
@@ -115,32 +160,34 @@ struct mlat_reception {
     uint8_t message[32];  /* hash of the message; the identity is above that of the reception before */
     int64_t time;         /* ps, 0 to 10^13 */
     int64_t site_mm[3];   /* ECEF, each within 10^10 either way */
-    double z;             /* metres of light after the reference, 0 to 3*10^9 */
+    double z;             /* arrival, metres of light, 0 to 3*10^9 */
     double noise_m2;      /* 10^-6 to 10^12 */
     uint64_t filler;      /* zero: any other value is refused, as in the file */
 };
 
-/* The same solve with a list of receptions_len structs in place of the bytes of receptions: answer and bytes are what the same definition gives for
-   the list, and demand 3 holds of them likewise. A list is never torn; of one over 32 nothing is read. */
-uint32_t mlat_solve_receptions(const struct mlat_reception *receptions, size_t receptions_len, const uint8_t *clock, size_t clock_len,
-                               const uint8_t *altitude, size_t altitude_len, const uint8_t *reference, size_t reference_len, uint32_t present,
-                               uint8_t *out, size_t out_len);
+/* The same solve with a list of receptions_len structs in place of the bytes of receptions: answer and bytes are what
+   the same definition gives for the list, and demand 3 holds of them likewise. A list is never torn; of one over 32
+   nothing is read. */
+uint32_t mlat_solve_receptions(const struct mlat_reception *receptions, size_t receptions_len, const uint8_t *clock,
+                               size_t clock_len, const uint8_t *altitude, size_t altitude_len,
+                               const uint8_t *reference, size_t reference_len, uint32_t present, uint8_t *out,
+                               size_t out_len);
 
 /* ---- states: why a receiver is missing from a fix */
 
 /* Solves the problem of the same inputs as mlat_solve does, and writes into states, for each reception of a solved
-   problem, in input order, 20 bytes, little-endian: u32 state (1 used, 2 removed by the screen, 3 left out), u32 turn of
-   the removal, from 1, u32 clash count in that turn, f64 normalised residual, zero bytes where a state has none. Used are
-   the receptions of the record's mask, with a residual of at most 5 at its ECEF and T; left out are those that the screen
-   keeps and the fix does not use, with one above 5. Exactly one state holds of each reception, by the solve's own
-   definitions, and that one is given (crates/why/specs/Meaning.antt).
-   Returns the answer number of mlat_solve on the same inputs. MLAT_SHORT_OUTPUT where states_len is under 640, before
-   anything else is looked at: then *detail stays. For every other answer *detail gets bytes 4 to 7 of the record that
-   mlat_solve writes: the degrees of freedom of a fix, a refusal's detail. A refusal leaves states as it was, and the bytes
-   past the last state never change. No pointer is NULL, and states and detail overlap none of the inputs. */
-uint32_t mlat_why(const uint8_t *receptions, size_t receptions_len, const uint8_t *clock, size_t clock_len, const uint8_t *altitude,
-                  size_t altitude_len, const uint8_t *reference, size_t reference_len, uint32_t present, uint8_t *states,
-                  size_t states_len, uint32_t *detail);
+   problem, in input order, 20 bytes, little-endian: u32 state (1 used, 2 removed by the screen, 3 left out), u32 turn
+   of the removal, from 1, u32 clash count in that turn, f64 normalised residual, zero bytes where a state has none.
+   Used are the receptions of the record's mask, with a residual of at most 5 at its ECEF and T; left out are those
+   that the screen keeps and the fix does not use, with one above 5. Exactly one state holds of each reception, by the
+   solve's own definitions, and that one is given (crates/why/specs/Meaning.antt). Returns the answer number of
+   mlat_solve on the same inputs. MLAT_SHORT_OUTPUT where states_len is under 640, before anything else is looked at:
+   then *detail stays. For every other answer *detail gets bytes 4 to 7 of the record that mlat_solve writes: the
+   degrees of freedom of a fix, a refusal's detail. A refusal leaves states as it was, and the bytes past the last
+   state never change. */
+uint32_t mlat_why(const uint8_t *receptions, size_t receptions_len, const uint8_t *clock, size_t clock_len,
+                  const uint8_t *altitude, size_t altitude_len, const uint8_t *reference, size_t reference_len,
+                  uint32_t present, uint8_t *states, size_t states_len, uint32_t *detail);
 
 /* ---- records: fix records read back */
 
@@ -164,23 +211,23 @@ uint32_t mlat_read_record(const uint8_t *record, size_t record_len, uint32_t wor
 /* Puts a record together again in the first 176 bytes of out: what was read gives its bytes, and reading those gives
    the same words, numbers and time. Returns 0; MLAT_SHORT_OUTPUT where out_len is under 176; then
    MLAT_MALFORMED_RECORD for whatever mlat_read_record could not have given. A refusal leaves out as it was, and bytes
-   past 176 never change. out overlaps neither words nor numbers. */
+   past 176 never change. */
 uint32_t mlat_write_record(const uint32_t words[6], const double numbers[18], int64_t transmit_ps, uint8_t *out,
                            size_t out_len);
 
 /* ---- positions: as the wire writes them */
 
-/* The position of the fix in a record, as whole numbers: wire[0] latitude and wire[1] longitude in 10^-7 degree, wire[2]
-   height in millimetres. Each is the whole number nearest the exact value of the record's float, at most half a unit
-   away, and of two as near the one farther from zero: 2^-8 degree is 39063, -2^-8 degree -39063. Returns 0; what
-   mlat_read_record gives where it refuses the record; then MLAT_BEYOND_THE_WIRE where the record holds no fix, or its
-   latitude is beyond 90 degrees either way, its longitude beyond 180 or its height outside -1,500 to 25,000 m, before
-   rounding and the ends included. A refusal leaves wire as it was. */
+/* The position of the fix in a record, as whole numbers: wire[0] latitude and wire[1] longitude in 10^-7 degree,
+   wire[2] height in millimetres. Each is the whole number nearest the exact value of the record's float, at most half
+   a unit away, and of two as near the one farther from zero: 2^-8 degree is 39063, -2^-8 degree -39063. Returns 0;
+   what mlat_read_record gives where it refuses the record; then MLAT_BEYOND_THE_WIRE where the record holds no fix, or
+   its latitude is beyond 90 degrees either way, its longitude beyond 180 or its height outside -1,500 to 25,000 m,
+   before rounding and the ends included. A refusal leaves wire as it was. */
 uint32_t mlat_to_wire(const uint8_t *record, size_t record_len, int32_t wire[3]);
 
 /* The way back, by one division each: position[0] latitude and position[1] longitude in degrees, position[2] height in
-   metres. What is written again is the same three whole numbers. Returns 0; MLAT_BEYOND_THE_WIRE where one is beyond the
-   same limits, and then position stays as it was. Whatever mlat_to_wire writes is read back. */
+   metres. What is written again is the same three whole numbers. Returns 0; MLAT_BEYOND_THE_WIRE where one is beyond
+   the same limits, and then position stays as it was. Whatever mlat_to_wire writes is read back. */
 uint32_t mlat_from_wire(const int32_t wire[3], double position[3]);
 
 /* ---- archives: fix records with six covariance entries for nine */
@@ -189,14 +236,14 @@ uint32_t mlat_from_wire(const int32_t wire[3], double position[3]);
    entries on and right of the diagonal by rows, and the last 24 bytes. Returns 0; MLAT_SHORT_OUTPUT where out_len is
    under 152; then what mlat_read_record gives the record, MLAT_TORN_FILE or MLAT_MALFORMED_RECORD; then
    MLAT_UNEQUAL_MIRROR where an entry and its mirror differ in a bit, as 0 and -0 do. Every refusal that mlat_solve
-   writes, and every fix of its with finite numbers, gets 0. mlat_from_archive gives the same 176 bytes again. A refusal
-   leaves out as it was, and bytes past 152 never change. out does not overlap record. */
+   writes, and every fix of its with finite numbers, gets 0. mlat_from_archive gives the same 176 bytes again. A
+   refusal leaves out as it was, and bytes past 152 never change. */
 uint32_t mlat_to_archive(const uint8_t *record, size_t record_len, uint8_t *out, size_t out_len);
 
 /* Moves a record of 152 bytes back, to the first 176 bytes of out: its old form, in which each entry left of the
-   diagonal is its mirror. Returns 0; MLAT_SHORT_OUTPUT where out_len is under 176; then MLAT_TORN_FILE where record_len
-   is not 152; then MLAT_MALFORMED_RECORD where mlat_read_record turns the old form away. mlat_to_archive gives the same
-   152 bytes again. A refusal leaves out as it was, and bytes past 176 never change. out does not overlap record. */
+   diagonal is its mirror. Returns 0; MLAT_SHORT_OUTPUT where out_len is under 176; then MLAT_TORN_FILE where
+   record_len is not 152; then MLAT_MALFORMED_RECORD where mlat_read_record turns the old form away. mlat_to_archive
+   gives the same 152 bytes again. A refusal leaves out as it was, and bytes past 176 never change. */
 uint32_t mlat_from_archive(const uint8_t *record, size_t record_len, uint8_t *out, size_t out_len);
 
 /* ---- matrices: the remaining calculations of linalg.rs */
