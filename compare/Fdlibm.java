@@ -1,3 +1,7 @@
+// Copyright (C) 1993 by Sun Microsystems, Inc. All rights reserved.
+// Developed at SunSoft, a Sun Microsystems, Inc. business. Permission to use, copy, modify, and distribute this
+// software is freely granted, provided that this notice is preserved.
+//
 // Writes arguments and fdlibm's results for sin, cos, atan2 and hypot: N of each, as records of
 // four 64-bit words, little-endian (function number, x, y, result). Usage: java Fdlibm.java N [SEED]
 //

@@ -1,3 +1,7 @@
+// Copyright (C) 1993 by Sun Microsystems, Inc. All rights reserved.
+// Developed at SunSoft, a Sun Microsystems, Inc. business. Permission to use, copy, modify, and distribute this
+// software is freely granted, provided that this notice is preserved.
+//
 // Sine, cosine, both together, atan2 and hypot by the steps of fdlibm 5.3, Sun's freely
 // distributable math library: the same binary64 operations in the same order, so the same bits.
 // Functions, constants and variables have fdlibm's names, and each file says which of fdlibm's it

@@ -1,3 +1,7 @@
+// Copyright (C) 1993 by Sun Microsystems, Inc. All rights reserved.
+// Developed at SunSoft, a Sun Microsystems, Inc. business. Permission to use, copy, modify, and distribute this
+// software is freely granted, provided that this notice is preserved.
+//
 // An angle less a multiple of pi/2: e_rem_pio2.c of fdlibm 5.3, from pi/4 to 7.
 ghost use mathlib.Core.Path.{_≡_};
 ghost use lib.Ieee.{toUnsigned};

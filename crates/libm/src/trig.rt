@@ -1,3 +1,7 @@
+// Copyright (C) 1993 by Sun Microsystems, Inc. All rights reserved.
+// Developed at SunSoft, a Sun Microsystems, Inc. business. Permission to use, copy, modify, and distribute this
+// software is freely granted, provided that this notice is preserved.
+//
 // Sine and cosine: s_sin.c and s_cos.c of fdlibm 5.3, for angles within ±7.
 ghost use mathlib.Core.Path.{_≡_};
 ghost use Rattle.libm.specs.Trig.{quadrant, sin, cos};

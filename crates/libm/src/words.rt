@@ -1,3 +1,7 @@
+// Copyright (C) 1993 by Sun Microsystems, Inc. All rights reserved.
+// Developed at SunSoft, a Sun Microsystems, Inc. business. Permission to use, copy, modify, and distribute this
+// software is freely granted, provided that this notice is preserved.
+//
 // What fdlibm's functions share: the high word of an f64 and its sign, by which they test their
 // arguments, and a `switch` of four cases.
 ghost use mathlib.Core.Path.{_≡_};
