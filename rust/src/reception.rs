@@ -29,7 +29,7 @@ pub struct Reception {
     pub time_ps: i64,
     /// ECEF, each within ±10^10.
     pub site_mm: [i64; 3],
-    /// Arrival in metres of light after the reference, 0 to 3·10^9.
+    /// Arrival in metres of light, 0 to 3·10^9.
     pub z_m: f64,
     /// Variance of its own timing, 10^-6 to 10^12.
     pub noise_m2: f64,

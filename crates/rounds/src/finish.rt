@@ -14,7 +14,8 @@ use record::Fix;
 // The most a published fix's standard deviation may be along any axis, metres: of solve.rs.
 const MAX_SIGMA_M: f64 = 1_500.0;
 
-// What the steps after the rounds can refuse: 5, 6, 9 and 3 of document 01, in their order.
+// What the steps after the rounds can refuse: document 01's 6 (the whitener), 5, 6 (the information), 9 and 3 are
+// tested in this order.
 pub enum Unpublished {
     Inconsistent,
     Singular,
