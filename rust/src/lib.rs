@@ -45,6 +45,9 @@ mod asterix;
 mod fix;
 mod matrices;
 mod patterns;
+mod claims;
+mod fix;
+pub mod geo;
 mod reception;
 mod record;
 mod records;
@@ -55,6 +58,7 @@ mod wire;
 pub use altitude::{Altitude, Reported};
 pub use archive::{ARCHIVED, from_archive, to_archive};
 pub use asterix::{ITEMS, Multiples, read_asterix, to_asterix, write_asterix};
+pub use claims::chi2_limit;
 pub use fix::Fix;
 pub use matrices::{cholesky, forward_rows, inverse_diagonal, inverse_triangular, sandwich};
 pub use patterns::clash_patterns;
@@ -123,12 +127,31 @@ fn lent(files: [Option<&[u8]>; 3]) -> (u32, [&[u8]; 3]) {
     (clock | altitude << 1 | reference << 2, files.map(|file| file.unwrap_or(&[])))
 }
 
+/// The 176 bytes of the problem's record, and its answer number: 0 for a fix.
+pub fn solve_record(problem: &Problem) -> (u32, [u8; RECORD]) {
+    let altitude = problem.altitude.as_ref().map(Reported::to_bytes);
+    let mut record = [0; RECORD];
+    let answer = solve_receptions(
+        problem.receptions,
+        problem.clock_m2.map(bytes_of),
+        altitude.as_ref().map(<[u8; 16]>::as_slice),
+        Some(&problem.reference_ps.to_le_bytes()),
+        &mut record,
+    );
+    (answer, record)
+}
+
 /// Where the aircraft was, or why that is not said. [`Refusal::MalformedRecord`] would say that a number of the fix is not
 /// finite; no problem is known that has such a fix.
 pub fn solve(problem: &Problem) -> Result<Fix, Refusal> {
-    let clock: Option<Vec<u8>> = problem.clock_m2.map(|entries| entries.iter().flat_map(|entry| entry.to_le_bytes()).collect());
-    let altitude = problem.altitude.as_ref().map(Reported::to_bytes);
-    let mut record = [0; RECORD];
-    solve_receptions(problem.receptions, clock.as_deref(), altitude.as_ref().map(<[u8; 16]>::as_slice), Some(&problem.reference_ps.to_le_bytes()), &mut record);
-    read(&record)?.fix()
+    read(&solve_record(problem).1)?.fix()
 }
+
+/// Numbers as they lie in memory, which is how the files have them: nothing is copied.
+fn bytes_of(numbers: &[f64]) -> &[u8] {
+    // SAFETY: all bytes of the numbers are there, none is padding, and a byte needs no alignment.
+    unsafe { std::slice::from_raw_parts(numbers.as_ptr().cast(), std::mem::size_of_val(numbers)) }
+}
+
+#[cfg(not(target_endian = "little"))]
+compile_error!("the library is for little-endian machines");
