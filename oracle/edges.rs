@@ -1,5 +1,6 @@
 //! Document 01's edges that are not whole numbers, each as a problem: found by search from a fixed seed. What makes it the edge is asserted of the rounds.
 
+use crate::climb;
 use crate::geo;
 use crate::identities;
 use crate::linalg::{norm, sub};
@@ -17,7 +18,7 @@ pub type Edge = (&'static str, fn(&mut Random) -> Option<Vec<Scene>>, &'static [
 
 pub const SEED: u64 = 77;
 
-pub const EDGES: [Edge; 17] = [
+pub const EDGES: [Edge; 20] = [
     ("a residual of exactly 5 stays", five_stays, &[6]),
     ("a residual of exactly 5 comes back", five_returns, &[2578, 2700, 3057]),
     ("a range of exactly 600,000 m", range, &[20, 30]),
@@ -35,6 +36,9 @@ pub const EDGES: [Edge; 17] = [
     ("a fix at a pole", at_pole, &[0, 1, 2]),
     ("a transmit time beside a half", half, &[0, 1, 2]),
     ("a best fit on a site", fit_on_site, &[0, 8, 9]),
+    ("rounds that settle in the very last one", climb::last_round, &[2001, 2285]),
+    ("rounds that settle one too late", climb::one_round_late, &[2279, 2285]),
+    ("the same beside a removed reception", climb::one_round_late_of_kept, &[2279, 2285]),
 ];
 
 /// The answer to a problem.

@@ -16,6 +16,7 @@ pub mod modes;
 pub use at_least::AtLeast;
 mod at_least;
 
+mod climb;
 pub mod corrections;
 pub mod damage;
 pub mod edges;

@@ -28,6 +28,12 @@ impl Trace {
         self.rounds.iter().filter_map(|round| round.change)
     }
 
+    /// How many rounds made a change, where the one after them settled.
+    pub fn settled_after(&self) -> Option<usize> {
+        let last = self.rounds.last()?;
+        (last.fit.is_ok() && last.change.is_none() && last.residuals.iter().all(|(_, x)| !x.is_nan())).then(|| self.rounds.len() - 1)
+    }
+
     pub fn returns(&self) -> usize {
         self.changes().filter(|change| matches!(change, Change::Return(_))).count()
     }
@@ -44,10 +50,20 @@ fn first(among: impl Iterator<Item = (usize, f64)>, better: fn(f64, f64) -> bool
 
 pub fn trace(problem: &Problem) -> Trace {
     let kept = problem.screen();
+    let most = 2 * kept.len() + 2;
+    rounds_of(problem, kept, most)
+}
+
+/// The same, had the rounds no end: of at most `most`.
+pub fn longer(problem: &Problem, most: usize) -> Trace {
+    rounds_of(problem, problem.screen(), most)
+}
+
+fn rounds_of(problem: &Problem, kept: Vec<usize>, most: usize) -> Trace {
     let mut included = kept.clone();
     let mut previous: Option<Params> = None;
     let mut rounds: Vec<Round> = Vec::new();
-    while rounds.len() < 2 * kept.len() + 2 && included.len() >= problem.minimum() {
+    while rounds.len() < most && included.len() >= problem.minimum() {
         let round = round(problem, &kept, &included, previous);
         match round.change {
             Some(Change::Removal(i)) => included.retain(|j| *j != i),
