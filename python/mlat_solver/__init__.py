@@ -1,0 +1,31 @@
+"""The proved position solve of a multilateration network, from Python.
+
+    from mlat_solver import Altitude, Fix, Problem, solve
+
+    receptions = sorted(heard, key=lambda reception: reception.identity)
+    answer = solve(Problem(receptions, clock_m2, Altitude.barometric(9144.0, correction_cm=-350)))
+    if isinstance(answer, Fix):
+        print(answer.latitude_deg, answer.longitude_deg, answer.height_m)
+    else:
+        print(answer)  # a Refusal: its number, in words
+
+What a call answers is proved, for every input; this package lends the library its bytes. A module a subject, as in
+include/mlat_solver.h: a new subject is a module that declares its functions by `library.function`, and a line here.
+"""
+
+from .archive import ARCHIVED, from_archive, to_archive
+from .geodesy import enu_basis, enu_covariance, from_ecef, horizontal_sigma_m, to_ecef
+from .library import LibraryNotFound
+from .problem import RECEPTION, Altitude, Files, ObservationId, Problem, Reception
+from .fixes import RECORD, Fix, Records, open_records, read, records, write
+from .refusal import Refusal
+from .solving import solve, solve_many, solve_many_records, solve_record
+from .states import State, why
+from .wire import Wire, to_wire
+
+__all__ = [
+    "ARCHIVED", "Altitude", "Files", "Fix", "LibraryNotFound", "ObservationId", "Problem", "RECEPTION", "RECORD",
+    "Reception", "Records", "Refusal", "State", "Wire", "enu_basis", "enu_covariance", "from_archive", "from_ecef",
+    "horizontal_sigma_m", "open_records", "read", "records", "solve", "solve_many", "solve_many_records",
+    "solve_record", "to_archive", "to_ecef", "to_wire", "why", "write",
+]

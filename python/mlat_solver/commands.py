@@ -1,0 +1,119 @@
+"""The commands of `python -m mlat_solver`."""
+
+from __future__ import annotations
+
+import argparse
+import csv
+import json
+import pathlib
+import sys
+from typing import Any, Dict, Iterator, List, Optional, Union
+
+from . import page
+from .geodesy import enu_covariance
+from .library import LibraryNotFound
+from .problem import Files
+from .fixes import Fix, Records, open_records, read
+from .refusal import Refusal
+from .solving import solve
+from .states import why
+
+#: The columns of a record: those of a refusal end with n.
+COLUMNS = (
+    "place answer name detail n used latitude_deg longitude_deg height_m transmit_ps x_m y_m z_m t_m chi2 "
+    "altitude_kind altitude_m c00 c01 c02 c10 c11 c12 c20 c21 c22"
+).split()
+
+
+def row(place: int, held: Union[Fix, Refusal]) -> Dict[str, Any]:
+    """A record's fields by the names of `COLUMNS`, floats so that they are read back to the bit."""
+    if isinstance(held, Refusal):
+        return dict(zip(COLUMNS, (place, held.number, held.name, held.detail, held.n)))
+    covariance = [entry for line in held.covariance_m2 for entry in line]
+    altitude = (held.altitude.kind, held.altitude.metres) if held.altitude else (0, None)
+    position = (held.latitude_deg, held.longitude_deg, held.height_m)
+    return dict(zip(COLUMNS, (place, 0, "FIX", held.dof, held.n, held.used, *position, held.transmit_ps, *held.ecef_m,
+                              held.t_m, held.chi2, *altitude, *covariance)))
+
+
+def rows(opened: Records) -> Iterator[Dict[str, Any]]:
+    """The records of a file; a malformed one has the answer 18."""
+    for place, record in enumerate(opened):
+        try:
+            yield row(place, read(record))
+        except Refusal as refusal:
+            yield row(place, refusal)
+
+
+def list_records(words: List[str]) -> int:
+    """Lists the records of a file on standard output: `--csv` with a head, or `--json`, an object a line."""
+    parser = argparse.ArgumentParser("python -m mlat_solver records", description=list_records.__doc__)
+    parser.add_argument("file")
+    form = parser.add_mutually_exclusive_group()
+    form.add_argument("--csv", action="store_true", help="comma-separated lines (if nothing is said)")
+    form.add_argument("--json", action="store_true", help="a JSON object a line")
+    given = parser.parse_args(words)
+    listed = rows(open_records(given.file))
+    if given.json:
+        for held in listed:
+            print(json.dumps(held))
+        return 0
+    out = csv.DictWriter(sys.stdout, COLUMNS, lineterminator="\n")
+    out.writeheader()
+    out.writerows(listed)
+    return 0
+
+
+def make_page(words: List[str]) -> int:
+    """Writes a page to look at, of a problem's folder, or of a file of records and a place in it, from 0."""
+    parser = argparse.ArgumentParser("python -m mlat_solver page", description=make_page.__doc__)
+    parser.add_argument("folder", metavar="FOLDER|FILE")
+    parser.add_argument("place", type=int, nargs="?", metavar="PLACE")
+    parser.add_argument("-o", dest="out", required=True, metavar="HTML", help="the file to write; - is standard output")
+    given = parser.parse_args(words)
+    if given.place is None:
+        seen = page.of_files(given.folder, Files.of_folder(given.folder))
+    else:
+        seen = page.of_record(f"{given.folder}, place {given.place}", open_records(given.folder)[given.place])
+    written = page.html(seen)
+    if given.out == "-":
+        sys.stdout.write(written)
+    else:
+        pathlib.Path(given.out).write_text(written, "utf-8")
+    return 0
+
+
+def show(words: List[str]) -> int:
+    """Solves the four files of a folder and shows the fix, and of every receiver whether it is used, and why not.
+    Exit status: 0 a fix, 1 a refusal, 2 nothing was solved. `records FILE` lists a file of records, `page FOLDER -o
+    HTML` writes a page to look at; each has --help."""
+    parser = argparse.ArgumentParser("python -m mlat_solver", description=show.__doc__)
+    parser.add_argument("folder")
+    files = Files.of_folder(parser.parse_args(words).folder)
+    answer = solve(files)
+    if isinstance(answer, Refusal):
+        print(f"no fix: {answer}")
+        return 1
+    position = (answer.latitude_deg, answer.longitude_deg, answer.height_m)
+    enu = enu_covariance(position, answer.covariance_m2)
+    print(f"latitude {position[0]:.7f}, longitude {position[1]:.7f} degrees, height {position[2]:.1f} m")
+    sigma = [f"{name} {enu[k][k] ** 0.5:.1f} m" for k, name in enumerate(("east", "north", "up"))]
+    print("standard deviations " + ", ".join(sigma))
+    print(f"chi-square {answer.chi2:.3f} at {answer.dof} degrees of freedom, sent at {answer.transmit_ps} ps")
+    for place, state in enumerate(why(files)):
+        print(f"reception {place}: {state}")
+    return 0
+
+
+def main(words: Optional[List[str]] = None) -> int:
+    """Runs a command; its exit status."""
+    words = sys.argv[1:] if words is None else words
+    command = {"records": list_records, "page": make_page}.get(words[0] if words else "", show)
+    try:
+        return command(words if command is show else words[1:])
+    except BrokenPipeError:
+        sys.stderr.close()
+        return 141
+    except (Refusal, OSError, LibraryNotFound) as error:
+        print(f"mlat_solver: {error}", file=sys.stderr)
+        return 2

@@ -1,0 +1,140 @@
+"""Fix records: read, written, and found in a file."""
+
+from __future__ import annotations
+
+import ctypes
+import mmap
+import os
+from dataclasses import dataclass
+from typing import Any, Iterator, Optional, Tuple, Union
+
+from .library import LENT, function, lent
+from .problem import Altitude, Buffer
+from .refusal import Refusal, answered
+
+#: The length of a record.
+RECORD = 176
+
+_Words, _Numbers = ctypes.c_uint32 * 6, ctypes.c_double * 18
+_Long = ctypes.POINTER(ctypes.c_int64)
+_read = function("mlat_read_record", *LENT, _Words, _Numbers, _Long)
+_write = function("mlat_write_record", _Words, _Numbers, ctypes.c_int64, ctypes.c_char_p, ctypes.c_size_t)
+_record_at = function("mlat_record_at", *LENT, ctypes.c_uint64, ctypes.POINTER(ctypes.c_uint64))
+
+Row = Tuple[float, float, float]
+
+
+@dataclass(frozen=True)
+class Fix:
+    """A solved position."""
+
+    #: Receptions considered.
+    n: int
+    #: Bit i is set where reception i, from 0, was used.
+    used: int
+    #: Degrees of freedom: used receptions, plus one with an altitude, less 4.
+    dof: int
+    #: Metres.
+    ecef_m: Row
+    #: Transmit time, metres of light after the reference.
+    t_m: float
+    #: Degrees, WGS 84.
+    latitude_deg: float
+    longitude_deg: float
+    #: Above the ellipsoid.
+    height_m: float
+    transmit_ps: int
+    #: Of the position, ECEF, m², rows in order.
+    covariance_m2: Tuple[Row, Row, Row]
+    chi2: float
+    version: int
+    #: As it was given, without a station's correction.
+    altitude: Optional[Altitude]
+
+    def uses(self, reception: int) -> bool:
+        """Whether the fix uses the reception at a place, from 0."""
+        return 0 <= reception < 32 and bool(self.used >> reception & 1)
+
+
+def read(record: Buffer) -> Union[Fix, Refusal]:
+    """What a record of 176 bytes holds: a fix, or why a solve gave none. Raises `Refusal` 16 for another length, 18
+    where it breaks a rule of document 02."""
+    words, numbers, transmit_ps = _Words(), _Numbers(), ctypes.c_int64()
+    answered(_read(*lent(record), words, numbers, transmit_ps))
+    answer, detail, n, used, version, kind = words
+    if answer != 0:
+        return Refusal(answer, detail, n)
+    x, y, z, t_m, latitude_deg, longitude_deg, height_m, *covariance, chi2, metres = numbers
+    rows: Any = tuple(tuple(covariance[at : at + 3]) for at in (0, 3, 6))
+    return Fix(n, used, detail, (x, y, z), t_m, latitude_deg, longitude_deg, height_m, transmit_ps.value, rows, chi2,
+               version, Altitude(kind, metres) if kind else None)
+
+
+def write(held: Union[Fix, Refusal]) -> bytes:
+    """The record of a fix or a refusal: what was read gives its bytes. Raises `Refusal` 18 for what no record holds."""
+    if isinstance(held, Refusal):
+        words, numbers, transmit_ps = _Words(held.number, held.detail, held.n), _Numbers(), 0
+    else:
+        altitude = held.altitude or Altitude(0, 0.0)
+        words = _Words(0, held.dof, held.n, held.used, held.version, altitude.kind)
+        covariance = [entry for row in held.covariance_m2 for entry in row]
+        numbers = _Numbers(*held.ecef_m, held.t_m, held.latitude_deg, held.longitude_deg, held.height_m, *covariance,
+                           held.chi2, altitude.metres)
+        transmit_ps = held.transmit_ps
+    out = ctypes.create_string_buffer(RECORD)
+    answered(_write(words, numbers, transmit_ps, out, RECORD))
+    return out.raw
+
+
+class Records:
+    """The records of a file, each its own bytes: `len`, `[place]` from 0, and `for`."""
+
+    def __init__(self, file: Buffer) -> None:
+        """Over a buffer, which is not copied where it is bytes or can be written. Raises `Refusal` 16 where it is not
+        whole records."""
+        self._held = file
+        self._file = lent(file)
+        try:
+            self._at(0)
+        except Refusal as refusal:
+            if refusal.number == 16:
+                raise
+        self._view = memoryview(self._file[0]).cast("B")
+
+    def _at(self, place: int) -> int:
+        at = ctypes.c_uint64()
+        if not 0 <= place < 1 << 64:
+            raise Refusal(17)
+        answered(_record_at(*self._file, place, at))
+        return at.value
+
+    def __len__(self) -> int:
+        return self._file[1] // RECORD
+
+    def __getitem__(self, place: int) -> bytes:
+        """The record's bytes. Raises `Refusal` 17 past the last."""
+        at = self._at(place)
+        return self._view[at : at + RECORD].tobytes()
+
+    def __iter__(self) -> Iterator[bytes]:
+        return (self[place] for place in range(len(self)))
+
+
+def open_records(file: Union[str, os.PathLike[str]]) -> Records:
+    """The records of a file, which is mapped and not read at once."""
+    with open(file, "rb") as opened:
+        if os.fstat(opened.fileno()).st_size == 0:
+            return Records(b"")
+        # a private copy by page, of which none is made, for nothing is written: ctypes lends only what could be
+        return Records(mmap.mmap(opened.fileno(), 0, access=mmap.ACCESS_COPY))
+
+
+def records(file: Union[str, os.PathLike[str]]) -> Iterator[Union[Fix, Refusal]]:
+    """What the records of a file hold, in turn. Raises `Refusal` 16 for a file that is torn and 18, with the place in
+    `detail`, at the first record that is malformed; `Records` and `read` go on past one."""
+    opened = open_records(file)
+    for place, record in enumerate(opened):
+        try:
+            yield read(record)
+        except Refusal as refusal:
+            raise Refusal(refusal.number, place) from None

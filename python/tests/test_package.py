@@ -1,0 +1,251 @@
+"""The package's own: buffers, examples beside the programs, commands, the page."""
+
+import array
+import contextlib
+import io
+import json
+import mmap
+import pathlib
+import pickle
+import re
+import struct
+import subprocess
+import sys
+import tempfile
+import unittest
+import xml.etree.ElementTree as ElementTree
+from html.parser import HTMLParser
+
+import recordings
+from mlat_solver import Altitude, Files, Fix, ObservationId, Problem, Reception, Records, Refusal, open_records, records
+from mlat_solver import commands, drawing, page, solve, solve_record, why
+
+PROGRAMS = recordings.REPOSITORY / "target" / "bin"
+
+
+def example(name):
+    return Files.of_folder(recordings.EXAMPLES / name)
+
+
+def program(name, folder):
+    return subprocess.run([PROGRAMS / name], cwd=folder, stdout=subprocess.PIPE, check=True).stdout
+
+
+def run(*words):
+    """Exit status, standard output and standard error of a command."""
+    out, said = io.StringIO(), io.StringIO()
+    with contextlib.redirect_stdout(out), contextlib.redirect_stderr(said):
+        try:
+            status = commands.main([str(word) for word in words])
+        except SystemExit as ended:
+            status = ended.code
+    return status, out.getvalue(), said.getvalue()
+
+
+class Examples(unittest.TestCase):
+    """The example folders, and what the programs write for them."""
+
+    def test_records(self):
+        for name in recordings.FOLDERS:
+            self.assertEqual(solve_record(example(name)), (recordings.EXAMPLES / name / "record.bin").read_bytes())
+
+    @unittest.skipUnless((PROGRAMS / "tell_why").exists() and (PROGRAMS / "solve").exists(), "no programs are built")
+    def test_programs(self):
+        with tempfile.TemporaryDirectory() as folder:
+            for files, _ in list(recordings.solved())[::24]:
+                for name, part in zip(files._fields, files):
+                    path = pathlib.Path(folder, f"{name}.bin")
+                    path.unlink() if path.exists() else None
+                    if part is not None:
+                        path.write_bytes(part)
+                self.assertEqual(program("solve", folder), solve_record(files))
+                told = program("tell_why", folder)
+                self.assertEqual(told[:8], solve_record(files)[:8])
+                try:
+                    packed = [struct.pack("<3Id", one.state, one.turn, one.clashes, one.residual) for one in why(files)]
+                except Refusal as refusal:
+                    packed = []
+                    self.assertEqual(told[:8], struct.pack("<2I", refusal.number, refusal.detail))
+                self.assertEqual(told[8:], b"".join(packed).ljust(640, b"\0"))
+
+    def test_corrected(self):
+        files = example("fix")
+        given = Problem(files.receptions, array.array("d", files.clock), Altitude.barometric(11181.5, 9850), 0)
+        self.assertEqual(solve(given).altitude, Altitude(Altitude.BAROMETRIC, 11181.5))
+        high = solve(Problem(files.receptions, files.clock, Altitude.gnss(11280.0)))
+        self.assertEqual(high.altitude, Altitude(Altitude.GNSS, 11280.0))
+
+
+class Buffers(unittest.TestCase):
+    """What can be lent."""
+
+    def test_all_alike(self):
+        files = example("outlier")
+        known = solve_record(files)
+        with tempfile.TemporaryFile() as file:
+            file.write(files.receptions)
+            file.flush()
+            mapped = mmap.mmap(file.fileno(), 0, access=mmap.ACCESS_READ)
+            views = (lambda part: memoryview(bytearray(part)), lambda part: array.array("B", part))
+            for lend in (bytes, bytearray, memoryview, *views):
+                self.assertEqual(solve_record(Files(*map(lend, files))), known)
+            self.assertEqual(solve_record(files._replace(receptions=mapped)), known)
+            mapped.close()
+
+    def outlier(self, receptions, clock):
+        """examples/outlier, with these."""
+        reference = int.from_bytes(example("outlier").reference, "little")
+        return Problem(receptions, clock, Altitude.barometric(11280.0), reference)
+
+    def test_clock(self):
+        files = example("outlier")
+        floats = array.array("d", files.clock)
+        square = memoryview(floats).cast("B").cast("d", (6, 6))
+        for clock in (floats, list(floats), tuple(floats), memoryview(floats), square):
+            self.assertEqual(solve_record(self.outlier(files.receptions, clock)), solve_record(files))
+        with self.assertRaises(TypeError):
+            solve(Problem(files.receptions, array.array("f", floats)))
+        with self.assertRaises(TypeError):
+            solve(Problem(files.receptions, memoryview(floats)[::2]))
+        with self.assertRaises(TypeError):
+            solve(Problem(3))
+
+    def test_numpy(self):
+        try:
+            import numpy
+        except ImportError:
+            self.skipTest("numpy is not there")
+        files = example("outlier")
+        clock = numpy.frombuffer(files.clock).reshape(6, 6)
+        receptions = numpy.frombuffer(files.receptions, dtype="V132").copy()
+        self.assertEqual(solve_record(self.outlier(receptions, clock)), solve_record(files))
+
+    def test_keys(self):
+        with self.assertRaises(ValueError):
+            Reception(ObservationId(b"short"), 0, (0, 0, 0), 0.0, 1.0).to_bytes()
+        self.assertLess(ObservationId(b"\x7f" + bytes(31), 2), ObservationId(b"\x80" + bytes(31), 1))
+
+    def test_refusals(self):
+        for number in range(1, 25):
+            refusal = Refusal(number, 3, 4)
+            self.assertEqual(pickle.loads(pickle.dumps(refusal)), refusal)
+            self.assertTrue(str(refusal).startswith(f"refusal {number}: ") and refusal.name)
+        self.assertEqual(solve(Problem([])), Refusal(7))
+
+    def test_files_of_records(self):
+        with tempfile.TemporaryDirectory() as folder:
+            path = pathlib.Path(folder, "fixes.bin")
+            path.write_bytes(b"")
+            self.assertEqual(list(records(path)), [])
+            path.write_bytes(bytes(175))
+            with self.assertRaises(Refusal) as raised:
+                open_records(path)
+            self.assertEqual(raised.exception.number, 16)
+            path.write_bytes((recordings.EXAMPLES / "records.bin").read_bytes() + b"\xff" * 176)
+            with self.assertRaises(Refusal) as raised:
+                list(records(path))
+            self.assertEqual((raised.exception.number, raised.exception.detail), (18, 4))
+        held = records(recordings.EXAMPLES / "records.bin")
+        self.assertEqual([isinstance(one, Fix) for one in held], [True, True, False, True])
+        self.assertEqual(len(Records(memoryview(bytes(352)))), 2)
+
+
+class Commands(unittest.TestCase):
+    """python -m mlat_solver."""
+
+    def test_folder(self):
+        status, out, _ = run(recordings.EXAMPLES / "screened")
+        self.assertEqual(status, 0)
+        self.assertIn("latitude 47.5798547, longitude 9.3197246 degrees, height 11376.7 m", out)
+        self.assertIn("reception 4: removed by the screen in turn 1", out)
+        status, out, _ = run(recordings.EXAMPLES / "ambiguous")
+        self.assertEqual((status, out), (1, "no fix: refusal 8: two places fit about as well\n"))
+        self.assertEqual(run(recordings.EXAMPLES)[0], 2)
+        self.assertEqual(run()[0], 2)
+
+    def test_listing(self):
+        file = recordings.EXAMPLES / "records.bin"
+        status, out, _ = run("records", file, "--csv")
+        self.assertEqual((status, len(out.splitlines())), (0, 5))
+        listed = [json.loads(line) for line in run("records", file, "--json")[1].splitlines()]
+        self.assertEqual([held["answer"] for held in listed], [0, 0, 8, 0])
+        self.assertEqual(listed[0]["latitude_deg"], next(records(file)).latitude_deg)
+        self.assertEqual(run("records", recordings.EXAMPLES / "fix" / "clock.bin")[:2], (2, ""))
+
+    def test_module(self):
+        words = [sys.executable, "-m", "mlat_solver", recordings.EXAMPLES / "fix"]
+        ended = subprocess.run(words, stdout=subprocess.PIPE, check=True)
+        self.assertIn(b"latitude 47.5799145", ended.stdout)
+
+
+class Shapes(HTMLParser):
+    """Which tags are open, and that each is closed in turn."""
+
+    def __init__(self, text):
+        super().__init__()
+        self.open, self.wrong, self.links = [], [], []
+        self.feed(text)
+
+    def handle_starttag(self, tag, attrs):
+        if tag != "meta":
+            self.open.append(tag)
+        self.links += [value for name, value in attrs if name in ("src", "href")]
+
+    def handle_startendtag(self, tag, attrs):
+        """An element of the drawings without content."""
+
+    def handle_endtag(self, tag):
+        if not self.open or self.open.pop() != tag:
+            self.wrong.append(tag)
+
+
+class Page(unittest.TestCase):
+    """The page: whole, alone, and with what it has to show."""
+
+    def made(self, *words):
+        status, out, _ = run("page", *words, "-o", "-")
+        self.assertEqual(status, 0)
+        shapes = Shapes(out)
+        self.assertEqual((shapes.open, shapes.wrong, shapes.links), ([], [], []))
+        self.assertNotIn("http://", out.replace('http-equiv="', ""))
+        self.assertNotIn("url(", out)
+        for svg in re.findall("<svg.*?</svg>", out):
+            ElementTree.fromstring(svg)
+        for svg in re.findall("<figure><svg.*?</svg>", out):
+            self.assertIn("<title>", svg)
+            self.assertIn("<desc>", svg)
+        return out
+
+    def test_screened(self):
+        out = self.made(recordings.EXAMPLES / "screened")
+        for part in ("47.5798547°", "removed by the screen in turn 1", "left out; 35.06", "limit 5", "Two-sigma"):
+            self.assertIn(part, out)
+        for part in (">proved<", ">page<"):
+            self.assertIn(part, out)
+        for kind in ("used", "leftout", "removed"):
+            self.assertIn(f'class="{kind}"', out)
+
+    def test_refusal(self):
+        out = self.made(recordings.EXAMPLES / "ambiguous")
+        self.assertIn("Refusal 8: two places fit about as well", out)
+        self.assertIn('class="unknown"', out)
+        self.assertNotIn('class="fix"', out)
+
+    def test_record(self):
+        out = self.made(recordings.EXAMPLES / "records.bin", 1)
+        self.assertIn("reception 3: not used", out)
+        self.assertEqual(run("page", recordings.EXAMPLES / "records.bin", 9, "-o", "-")[0], 2)
+
+    def test_every_recorded_problem_has_a_page(self):
+        for files, _ in list(recordings.solved())[::6]:
+            text = page.html(page.of_files("a & b", files)).split("\n", 1)[1]
+            ElementTree.fromstring(re.sub("<meta [^>]*>", "", text))
+
+    def test_ellipse(self):
+        ellipse = drawing.two_sigma(((9.0, 0.0), (0.0, 4.0)))
+        self.assertEqual((ellipse.major_m, ellipse.minor_m, ellipse.bearing_deg), (6.0, 4.0, 90.0))
+        self.assertAlmostEqual(drawing.two_sigma(((5.0, 3.0), (3.0, 5.0))).bearing_deg, 45.0)
+
+
+if __name__ == "__main__":
+    unittest.main()
