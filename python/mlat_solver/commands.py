@@ -21,7 +21,7 @@ from .states import why
 #: The columns of a record: those of a refusal end with n.
 COLUMNS = (
     "place answer name detail n used latitude_deg longitude_deg height_m transmit_ps x_m y_m z_m t_m chi2 "
-    "altitude_kind altitude_m c00 c01 c02 c10 c11 c12 c20 c21 c22"
+    "version altitude_kind altitude_m c00 c01 c02 c10 c11 c12 c20 c21 c22"
 ).split()
 
 
@@ -33,7 +33,7 @@ def row(place: int, held: Union[Fix, Refusal]) -> Dict[str, Any]:
     altitude = (held.altitude.kind, held.altitude.metres) if held.altitude else (0, None)
     position = (held.latitude_deg, held.longitude_deg, held.height_m)
     return dict(zip(COLUMNS, (place, 0, "FIX", held.dof, held.n, held.used, *position, held.transmit_ps, *held.ecef_m,
-                              held.t_m, held.chi2, *altitude, *covariance)))
+                              held.t_m, held.chi2, held.version, *altitude, *covariance)))
 
 
 def rows(opened: Records) -> Iterator[Dict[str, Any]]:

@@ -169,7 +169,11 @@ class Commands(unittest.TestCase):
         self.assertEqual((status, len(out.splitlines())), (0, 5))
         listed = [json.loads(line) for line in run("records", file, "--json")[1].splitlines()]
         self.assertEqual([held["answer"] for held in listed], [0, 0, 8, 0])
-        self.assertEqual(listed[0]["latitude_deg"], next(records(file)).latitude_deg)
+        first = next(records(file))
+        self.assertEqual(listed[0]["latitude_deg"], first.latitude_deg)
+        self.assertEqual((listed[0]["version"], listed[0]["altitude_m"]), (8, first.altitude.metres))
+        covariance = [one for row in first.covariance_m2 for one in row]
+        self.assertEqual([listed[0][f"c{at // 3}{at % 3}"] for at in range(9)], covariance)
         self.assertEqual(run("records", recordings.EXAMPLES / "fix" / "clock.bin")[:2], (2, ""))
 
     def test_module(self):
