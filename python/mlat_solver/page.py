@@ -178,7 +178,8 @@ def html(seen: Seen) -> str:
     fixed = isinstance(seen.answer, Fix)
     head = "Fix" if fixed else "No fix"
     marks = local(seen)
-    told = "" if fixed else f'<p class="refusal">{escape(str(seen.answer)).capitalize()}.</p>'
+    words = str(seen.answer)
+    told = "" if fixed else f'<p class="refusal">{escape(words[0].upper() + words[1:])}.</p>'
     return (
         '<!DOCTYPE html>\n<html lang="en"><head><meta charset="utf-8">'
         '<meta name="viewport" content="width=device-width, initial-scale=1">'
