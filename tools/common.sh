@@ -37,6 +37,22 @@ usage() {
     exit 2
 }
 
+# absolute PATH: as seen from the folder that the script is called in.
+absolute() {
+    case $1 in
+        /*) echo "$1" ;;
+        *) echo "$PWD/$1" ;;
+    esac
+}
+
+# legible FILE: a file that can be read.
+legible() {
+    if [ ! -f "$1" ] || [ ! -r "$1" ]; then
+        echo "$0: there is no file $1 that can be read" >&2
+        exit 2
+    fi
+}
+
 # problem FOLDER: a folder that can be read, with one of a problem's four files or more in it.
 problem() {
     if [ ! -d "$1" ]; then
