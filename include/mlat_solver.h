@@ -1,5 +1,5 @@
-/* The functions that Jifrosk's static library opens to callers. Each takes every value and keeps no state: any number of
-   calls may run side by side. What a comment promises is proved of the code; `double` is IEEE 754's binary64. All
+/* The functions that Jifrosk's library opens to callers. Each takes every value and keeps no state: any number of calls
+   may run side by side. What a comment promises is proved of the code; `double` is IEEE 754's binary64. All
    not-a-numbers count as one value.
 
    Pointers. One with a length lends that many entries (bytes, doubles, uint64_t or structs), one to an array with its
@@ -248,60 +248,64 @@ uint32_t mlat_from_archive(const uint8_t *record, size_t record_len, uint8_t *ou
 
 /* ---- matrices: the remaining calculations of linalg.rs */
 
-/* A matrix is n rows of n numbers one after the other, n from 0 to 32; lengths are numbers of doubles. Each result has the
-   bits of linalg.rs, in its order of sums, each sum from plus zero. Each call returns 0 and writes all of out; or
-   MLAT_WRONG_SIZE where n or width is over 32 or a length does not match, which is tested before any number is read, and
-   then out stays as it was. No pointer is NULL, and out overlaps no input. */
+/* A matrix is n rows of n numbers one after the other, n from 0 to 32; lengths are numbers of doubles. Each result has
+   the bits of linalg.rs, in its order of sums, each sum from plus zero. Each call returns 0 and writes all of out; or
+   MLAT_WRONG_SIZE where n or width is over 32 or a length does not match, which is tested before any number is read,
+   and then out stays as it was. */
 
-/* a * inner * a for a symmetric a (n * n entries each, out too): the covariance inner carried through the linear map a.
-   The result is symmetric to the bit, whatever a and inner hold. */
+/* a * inner * a for a symmetric a (n * n entries each, out too): the covariance inner carried through the linear map
+   a. The result is symmetric to the bit, whatever a and inner hold. */
 uint32_t mlat_sandwich(size_t n, const double *a, size_t a_len, const double *inner, size_t inner_len, double *out,
                        size_t out_len);
 
-/* R with L R = Q: l is a factor (n * n), q and out are n rows of width numbers, width from 0 to 32. An entry of l left of
-   the diagonal that equals 0, of either sign, is passed over: what stands in its row of q does not show through it. */
+/* R with L R = Q: l is a factor (n * n), q and out are n rows of width numbers, width from 0 to 32. An entry of l left
+   of the diagonal that equals 0, of either sign, is passed over: what stands in its row of q does not show through it.
+   */
 uint32_t mlat_forward_rows(size_t n, size_t width, const double *l, size_t l_len, const double *q, size_t q_len,
                            double *out, size_t out_len);
 
-/* The inverse of the matrix with the factor l (n * n, out too), as the product of the factor's inverse, transposed, and
-   itself. Symmetric to the bit, for every factor and for any numbers in its place. */
+/* The inverse of the matrix with the factor l (n * n, out too), as the product of the factor's inverse, transposed,
+   and itself. Symmetric to the bit, for every factor and for any numbers in its place. */
 uint32_t mlat_inverse_triangular(size_t n, const double *l, size_t l_len, double *out, size_t out_len);
 
-/* The diagonal of that inverse alone: out has n entries, each with the bits that mlat_inverse_triangular gives there. */
+/* The diagonal of that inverse alone: out has n entries, each with the bits that mlat_inverse_triangular gives there.
+   */
 uint32_t mlat_inverse_diagonal(size_t n, const double *l, size_t l_len, double *out, size_t out_len);
 
-/* The Cholesky factor L of a (n * n, out too), lower triangular, a = L * L transposed. Of a the entries on and left of the
-   diagonal are read alone; right of its diagonal the factor has plus zeros. Returns also MLAT_SINGULAR where a pivot is not
-   above 0 or is not a number, and then out stays as it was. */
+/* The Cholesky factor L of a (n * n, out too), lower triangular, a = L * L transposed. Of a the entries on and left of
+   the diagonal are read alone; right of its diagonal the factor has plus zeros. Returns also MLAT_SINGULAR where a
+   pivot is not above 0 or is not a number, and then out stays as it was. */
 uint32_t mlat_cholesky(size_t n, const double *a, size_t a_len, double *out, size_t out_len);
+
 /* ---- nearby: the fixes of a file near a place
 
    A file is whole records of 176 bytes, one after the other; a place counts its records from 0. Its refused solves are
    passed over. The distance of a fix is the root of the sum of the squares of its ECEF position less the point, in
    doubles, each step rounded, the sum from the left. It is never a not-a-number, and may be infinite. */
 
-/* The places of the fixes at most radius metres from the point, ascending, in the first entries of places, each once and
-   no other place; how many they are in *count. Entries past them stay. Returns 0; MLAT_SHORT_OUTPUT where places_len is
-   under file_len / 176, rounded down; then MLAT_TORN_FILE where the file is not whole records, MLAT_MALFORMED_RECORD
-   where mlat_read_record turns a record of it away, and MLAT_BAD_QUERY where the radius or a coordinate is not finite or
-   beyond 10^8 in size, or the radius is negative (-0 is not). A refusal leaves places and count as they were. What is
-   lent does not overlap. */
+/* The places of the fixes at most radius metres from the point, ascending, in the first entries of places, each once
+   and no other place; how many they are in *count. Entries past them stay. Returns 0; MLAT_SHORT_OUTPUT where
+   places_len is under file_len / 176, rounded down; then MLAT_TORN_FILE where the file is not whole records,
+   MLAT_MALFORMED_RECORD where mlat_read_record turns a record of it away, and MLAT_BAD_QUERY where the radius or a
+   coordinate is not finite or beyond 10^8 in size, or the radius is negative (-0 is not). A refusal leaves places and
+   count as they were. */
 uint32_t mlat_within(const uint8_t *file, size_t file_len, const double point[3], double radius, uint64_t *places,
                      size_t places_len, uint64_t *count);
 
-/* The place of the fix nearest to the point, the earliest of several at that distance; UINT64_MAX exactly where the file
-   has no fix. Returns 0, MLAT_TORN_FILE, MLAT_MALFORMED_RECORD or MLAT_BAD_QUERY, tested in this order; a refusal leaves
-   *place as it was. */
+/* The place of the fix nearest to the point, the earliest of several at that distance; UINT64_MAX exactly where the
+   file has no fix. Returns 0, MLAT_TORN_FILE, MLAT_MALFORMED_RECORD or MLAT_BAD_QUERY, tested in this order; a refusal
+   leaves *place as it was. */
 uint32_t mlat_nearest(const uint8_t *file, size_t file_len, const double point[3], uint64_t *place);
+
 /* ---- displays: items I020/041 and I020/105 of Eurocontrol's category 020, ten bytes */
 
-/* Writes the wire's numbers (mlat_to_wire) as the ten bytes of the two items, big-endian two's complement: latitude and
-   longitude, 32 bits each, the nearest multiples of 180/2^25 degree; height, 16 bits, the nearest multiple of 6.25 ft,
-   1,905 mm. No number of the wire lies halfway between two. Latitude 90 degrees is 01 00 00 00; a longitude that comes
-   to 180 degrees is that of -180, FE 00 00 00. What is written has latitude within 2^24 either way and longitude from
-   -2^25 to 2^25 - 1. Returns 0; MLAT_BEYOND_THE_ITEMS where out_len is not 10, latitude is beyond 90 degrees either
-   way, longitude beyond 180, or the height's multiple outside 16 bits (-62,423,992 to 62,422,087 mm fit), and then out
-   stays as it was. out does not overlap wire. */
+/* Writes the wire's numbers (mlat_to_wire) as the ten bytes of the two items, big-endian two's complement: latitude
+   and longitude, 32 bits each, the nearest multiples of 180/2^25 degree; height, 16 bits, the nearest multiple of 6.25
+   ft, 1,905 mm. No number of the wire lies halfway between two. Latitude 90 degrees is 01 00 00 00; a longitude that
+   comes to 180 degrees is that of -180, FE 00 00 00. What is written has latitude within 2^24 either way and longitude
+   from -2^25 to 2^25 - 1. Returns 0; MLAT_BEYOND_THE_ITEMS where out_len is not 10, latitude is beyond 90 degrees
+   either way, longitude beyond 180, or the height's multiple outside 16 bits (-62,423,992 to 62,422,087 mm fit), and
+   then out stays as it was. */
 uint32_t mlat_to_asterix(const int32_t wire[3], uint8_t *out, size_t out_len);
 
 /* The three multiples of whichever ten bytes: multiples[0] latitude and multiples[1] longitude in 180/2^25 degree,
@@ -309,16 +313,17 @@ uint32_t mlat_to_asterix(const int32_t wire[3], uint8_t *out, size_t out_len);
    then multiples stays as it was. mlat_write_asterix gives the same ten bytes again. */
 uint32_t mlat_read_asterix(const uint8_t *items, size_t items_len, int32_t multiples[3]);
 
-/* Writes three multiples as the ten bytes. No place is tested. Returns 0; MLAT_BEYOND_THE_ITEMS where out_len is not 10
-   or multiples[2] is outside 16 bits, and then out stays as it was. mlat_read_asterix gives the same three again. out
-   does not overlap multiples. */
+/* Writes three multiples as the ten bytes. No place is tested. Returns 0; MLAT_BEYOND_THE_ITEMS where out_len is not
+   10 or multiples[2] is outside 16 bits, and then out stays as it was. mlat_read_asterix gives the same three again.
+   */
 uint32_t mlat_write_asterix(const int32_t multiples[3], uint8_t *out, size_t out_len);
+
 /* ---- planning: what the screen does to small sets of receptions */
 
 /* Of all patterns of failing pairs that this many receptions can have, 2 to the number of pairs, counts[k] leave k
-   survivors, each pattern counted once. They add up to all patterns; counts past the number of receptions are 0, and so
-   is counts[0] where there is a reception. Three receptions have 8 patterns: one leaves 1, six leave 2, one leaves 3.
-   Returns 0; MLAT_OVER_SIX over six receptions, and then counts stays as it was. Six take some milliseconds. */
+   survivors, each pattern counted once. They add up to all patterns; counts past the number of receptions are 0, and
+   so is counts[0] where there is a reception. Three receptions have 8 patterns: one leaves 1, six leave 2, one leaves
+   3. Returns 0; MLAT_OVER_SIX over six receptions, and then counts stays as it was. Six take some milliseconds. */
 uint32_t mlat_clash_patterns(uint32_t receptions, uint64_t counts[7]);
 
 #ifdef __cplusplus

@@ -42,12 +42,11 @@
 mod altitude;
 mod archive;
 mod asterix;
-mod fix;
-mod matrices;
-mod patterns;
 mod claims;
 mod fix;
 pub mod geo;
+mod matrices;
+mod patterns;
 mod reception;
 mod record;
 mod records;
