@@ -9,7 +9,10 @@ fn main() {
     let archive = folder.join("libmlat_solver.a");
     println!("cargo:rerun-if-changed={}", archive.display());
     if !archive.exists() {
-        panic!("{} is not there: run `rt staticlib mlat_solver` in the repository first, or set MLAT_SOLVER_LIB", archive.display());
+        panic!(
+            "{} is not there: run `rt staticlib mlat_solver` in the repository first, or set MLAT_SOLVER_LIB",
+            archive.display()
+        );
     }
     println!("cargo:rustc-link-search=native={}", folder.display());
     println!("cargo:rustc-link-lib=static=mlat_solver");

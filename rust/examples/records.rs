@@ -1,6 +1,6 @@
 //! cargo run --example records FILE: lists a file of fix records.
 
-use jifrosk::{Record, Records, read};
+use jifrosk::{read, Record, Records};
 
 fn main() -> Result<(), Box<dyn std::error::Error>> {
     let path = std::env::args().nth(1).ok_or("usage: records FILE")?;

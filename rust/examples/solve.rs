@@ -18,14 +18,27 @@ fn input(folder: &str, name: &str) -> Result<Option<Vec<u8>>, String> {
 /// The record of the four files of a folder.
 fn solved(folder: &str) -> Result<[u8; RECORD], String> {
     let file = |name| input(folder, name);
-    let (receptions, clock, altitude, reference) =
-        (file("receptions")?, file("clock")?, file("altitude")?, file("reference")?);
-    if [&receptions, &clock, &altitude, &reference].iter().all(|file| file.is_none()) {
+    let (receptions, clock, altitude, reference) = (
+        file("receptions")?,
+        file("clock")?,
+        file("altitude")?,
+        file("reference")?,
+    );
+    if [&receptions, &clock, &altitude, &reference]
+        .iter()
+        .all(|file| file.is_none())
+    {
         return Err(format!("{folder} has none of the four files"));
     }
     let mut record = [0; RECORD];
     let receptions = receptions.unwrap_or_default();
-    solve_bytes(&receptions, clock.as_deref(), altitude.as_deref(), reference.as_deref(), &mut record);
+    solve_bytes(
+        &receptions,
+        clock.as_deref(),
+        altitude.as_deref(),
+        reference.as_deref(),
+        &mut record,
+    );
     Ok(record)
 }
 

@@ -1,7 +1,9 @@
 /// An altitude as a fix shows it, metres above the ellipsoid: as it was given.
 #[derive(Clone, Copy, Debug, PartialEq)]
 pub enum Altitude {
+    /// From a barometer.
     Barometric(f64),
+    /// From GNSS.
     Gnss(f64),
 }
 
@@ -11,14 +13,26 @@ pub enum Altitude {
 pub enum Reported {
     /// `correction_cm`, centimetres within ±100,000, is what a station knows of the local difference: the solve takes
     /// `metres + correction_cm / 100`, or `metres` untouched where it is 0. The fix shows `metres`.
-    Barometric { metres: f64, correction_cm: i32 },
-    Gnss { metres: f64 },
+    Barometric {
+        /// As the barometer has them.
+        metres: f64,
+        /// What a station adds, centimetres.
+        correction_cm: i32,
+    },
+    /// From GNSS: it takes no correction.
+    Gnss {
+        /// Above the ellipsoid.
+        metres: f64,
+    },
 }
 
 impl From<Altitude> for Reported {
     fn from(altitude: Altitude) -> Self {
         match altitude {
-            Altitude::Barometric(metres) => Self::Barometric { metres, correction_cm: 0 },
+            Altitude::Barometric(metres) => Self::Barometric {
+                metres,
+                correction_cm: 0,
+            },
             Altitude::Gnss(metres) => Self::Gnss { metres },
         }
     }

@@ -1,5 +1,5 @@
 use crate::refusal::answered;
-use crate::{RECORD, Record, Refusal, read, write};
+use crate::{read, write, Record, Refusal, RECORD};
 
 /// The length of a record in the archive's form.
 pub const ARCHIVED: usize = 152;

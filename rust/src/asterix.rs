@@ -36,7 +36,11 @@ pub fn read_asterix(items: &[u8]) -> Result<Multiples, Refusal> {
     // SAFETY: as above.
     answered(unsafe { mlat_read_asterix(items.as_ptr(), items.len(), &mut multiples) })?;
     let [latitude, longitude, height] = multiples;
-    Ok(Multiples { latitude, longitude, height })
+    Ok(Multiples {
+        latitude,
+        longitude,
+        height,
+    })
 }
 
 /// Writes multiples as the ten bytes; no place is tested. [`Refusal::BeyondTheItems`] where `out` has not ten bytes or the

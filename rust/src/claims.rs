@@ -1,7 +1,7 @@
 //! What a fix claims of itself: the calculations of solve.rs that readers of a fix need.
 
-use crate::Fix;
 use crate::geo::rows;
+use crate::Fix;
 
 extern "C" {
     fn mlat_chi2_limit(dof: u32) -> f64;

@@ -30,7 +30,11 @@ impl From<Geodetic> for [f64; 3] {
 
 impl From<[f64; 3]> for Geodetic {
     fn from([lat_deg, lon_deg, height_m]: [f64; 3]) -> Self {
-        Self { lat_deg, lon_deg, height_m }
+        Self {
+            lat_deg,
+            lon_deg,
+            height_m,
+        }
     }
 }
 

@@ -39,6 +39,8 @@
 //! [`Fix::to_asterix`] and [`Wire::to_asterix`] give the ten bytes of items I020/041 and I020/105, [`Multiples`] reads them.
 //! [`clash_patterns`] tells planners what the screen leaves of small sets of receptions.
 
+#![warn(missing_docs)]
+
 mod altitude;
 mod archive;
 mod asterix;
@@ -55,18 +57,18 @@ mod why;
 mod wire;
 
 pub use altitude::{Altitude, Reported};
-pub use archive::{ARCHIVED, from_archive, to_archive};
-pub use asterix::{ITEMS, Multiples, read_asterix, to_asterix, write_asterix};
+pub use archive::{from_archive, to_archive, ARCHIVED};
+pub use asterix::{read_asterix, to_asterix, write_asterix, Multiples, ITEMS};
 pub use claims::chi2_limit;
 pub use fix::Fix;
 pub use matrices::{cholesky, forward_rows, inverse_diagonal, inverse_triangular, sandwich};
 pub use patterns::clash_patterns;
-pub use reception::{ObservationId, RECEPTION, Reception};
-pub use record::{Record, read, write};
+pub use reception::{ObservationId, Reception, RECEPTION};
+pub use record::{read, write, Record};
 pub use records::{Iter, Records};
 pub use refusal::{Field, Refusal};
-pub use why::{STATE, STATES, State, why, why_bytes};
-pub use wire::{Position, Wire, to_wire};
+pub use why::{why, why_bytes, State, STATE, STATES};
+pub use wire::{to_wire, Position, Wire};
 
 /// The length of a record.
 pub const RECORD: usize = 176;
@@ -74,9 +76,11 @@ pub const RECORD: usize = 176;
 /// What is solved: at most 32 receptions.
 #[derive(Clone, Copy, Debug)]
 pub struct Problem<'a> {
+    /// In the order of their identities.
     pub receptions: &'a [Reception],
     /// The covariance of the receptions' clocks, m², n × n row by row: 0 to 10^12 on the diagonal, within ±10^12 right of it; entries left of it are never read.
     pub clock_m2: Option<&'a [f64]>,
+    /// An altitude that the message carried, if it did: it counts as one measurement more.
     pub altitude: Option<Reported>,
     /// What z and the transmit time count from.
     pub reference_ps: i64,
@@ -85,37 +89,85 @@ pub struct Problem<'a> {
 extern "C" {
     #[rustfmt::skip]
     fn mlat_solve(
-        receptions: *const u8, receptions_len: usize, clock: *const u8, clock_len: usize, altitude: *const u8, altitude_len: usize,
-        reference: *const u8, reference_len: usize, present: u32, out: *mut u8, out_len: usize,
+        receptions: *const u8,
+        receptions_len: usize,
+        clock: *const u8,
+        clock_len: usize,
+        altitude: *const u8,
+        altitude_len: usize,
+        reference: *const u8,
+        reference_len: usize,
+        present: u32,
+        out: *mut u8,
+        out_len: usize,
     ) -> u32;
     #[rustfmt::skip]
     fn mlat_solve_receptions(
-        receptions: *const Reception, receptions_len: usize, clock: *const u8, clock_len: usize, altitude: *const u8, altitude_len: usize,
-        reference: *const u8, reference_len: usize, present: u32, out: *mut u8, out_len: usize,
+        receptions: *const Reception,
+        receptions_len: usize,
+        clock: *const u8,
+        clock_len: usize,
+        altitude: *const u8,
+        altitude_len: usize,
+        reference: *const u8,
+        reference_len: usize,
+        present: u32,
+        out: *mut u8,
+        out_len: usize,
     ) -> u32;
 }
 
 /// The solve on the bytes of the four files, absent ones none; an absent receptions file is an empty one. Returns the answer number and writes the record to the
 /// first 176 bytes of `out`, where it is that long; else the answer is 14 and nothing is written.
-pub fn solve_bytes(receptions: &[u8], clock: Option<&[u8]>, altitude: Option<&[u8]>, reference: Option<&[u8]>, out: &mut [u8]) -> u32 {
+pub fn solve_bytes(
+    receptions: &[u8],
+    clock: Option<&[u8]>,
+    altitude: Option<&[u8]>,
+    reference: Option<&[u8]>,
+    out: &mut [u8],
+) -> u32 {
     let (present, [clock, altitude, reference]) = lent([clock, altitude, reference]);
     // SAFETY: each pointer is lent with its length, the output is apart from the inputs, and the call keeps none of them.
     unsafe {
         mlat_solve(
-            receptions.as_ptr(), receptions.len(), clock.as_ptr(), clock.len(), altitude.as_ptr(), altitude.len(),
-            reference.as_ptr(), reference.len(), present, out.as_mut_ptr(), out.len(),
+            receptions.as_ptr(),
+            receptions.len(),
+            clock.as_ptr(),
+            clock.len(),
+            altitude.as_ptr(),
+            altitude.len(),
+            reference.as_ptr(),
+            reference.len(),
+            present,
+            out.as_mut_ptr(),
+            out.len(),
         )
     }
 }
 
 /// The same with a list of receptions in place of their file.
-pub fn solve_receptions(receptions: &[Reception], clock: Option<&[u8]>, altitude: Option<&[u8]>, reference: Option<&[u8]>, out: &mut [u8]) -> u32 {
+pub fn solve_receptions(
+    receptions: &[Reception],
+    clock: Option<&[u8]>,
+    altitude: Option<&[u8]>,
+    reference: Option<&[u8]>,
+    out: &mut [u8],
+) -> u32 {
     let (present, [clock, altitude, reference]) = lent([clock, altitude, reference]);
     // SAFETY: as above, and `Reception` is laid out as include/mlat_solver.h has it.
     unsafe {
         mlat_solve_receptions(
-            receptions.as_ptr(), receptions.len(), clock.as_ptr(), clock.len(), altitude.as_ptr(), altitude.len(),
-            reference.as_ptr(), reference.len(), present, out.as_mut_ptr(), out.len(),
+            receptions.as_ptr(),
+            receptions.len(),
+            clock.as_ptr(),
+            clock.len(),
+            altitude.as_ptr(),
+            altitude.len(),
+            reference.as_ptr(),
+            reference.len(),
+            present,
+            out.as_mut_ptr(),
+            out.len(),
         )
     }
 }
@@ -123,7 +175,10 @@ pub fn solve_receptions(receptions: &[Reception], clock: Option<&[u8]>, altitude
 /// Which of three inputs there are, a bit each, and their bytes.
 fn lent(files: [Option<&[u8]>; 3]) -> (u32, [&[u8]; 3]) {
     let [clock, altitude, reference] = files.map(|file| u32::from(file.is_some()));
-    (clock | altitude << 1 | reference << 2, files.map(|file| file.unwrap_or(&[])))
+    (
+        clock | altitude << 1 | reference << 2,
+        files.map(|file| file.unwrap_or(&[])),
+    )
 }
 
 /// The 176 bytes of the problem's record, and its answer number: 0 for a fix.

@@ -1,16 +1,29 @@
 //! The remaining calculations of linalg.rs. A matrix is n rows of n numbers one after the other, n from 0 to 32.
 
-use crate::Refusal;
 use crate::refusal::answered;
+use crate::Refusal;
 
 extern "C" {
     #[rustfmt::skip]
     fn mlat_sandwich(
-        n: usize, a: *const f64, a_len: usize, inner: *const f64, inner_len: usize, out: *mut f64, out_len: usize,
+        n: usize,
+        a: *const f64,
+        a_len: usize,
+        inner: *const f64,
+        inner_len: usize,
+        out: *mut f64,
+        out_len: usize,
     ) -> u32;
     #[rustfmt::skip]
     fn mlat_forward_rows(
-        n: usize, width: usize, l: *const f64, l_len: usize, q: *const f64, q_len: usize, out: *mut f64, out_len: usize,
+        n: usize,
+        width: usize,
+        l: *const f64,
+        l_len: usize,
+        q: *const f64,
+        q_len: usize,
+        out: *mut f64,
+        out_len: usize,
     ) -> u32;
     fn mlat_inverse_triangular(n: usize, l: *const f64, l_len: usize, out: *mut f64, out_len: usize) -> u32;
     fn mlat_inverse_diagonal(n: usize, l: *const f64, l_len: usize, out: *mut f64, out_len: usize) -> u32;
@@ -28,7 +41,15 @@ extern "C" {
 pub fn sandwich(n: usize, a: &[f64], inner: &[f64], out: &mut [f64]) -> Result<(), Refusal> {
     // SAFETY: all are lent with their lengths, out apart from the others, and the call keeps none of them.
     answered(unsafe {
-        mlat_sandwich(n, a.as_ptr(), a.len(), inner.as_ptr(), inner.len(), out.as_mut_ptr(), out.len())
+        mlat_sandwich(
+            n,
+            a.as_ptr(),
+            a.len(),
+            inner.as_ptr(),
+            inner.len(),
+            out.as_mut_ptr(),
+            out.len(),
+        )
     })
 }
 
@@ -38,7 +59,16 @@ pub fn sandwich(n: usize, a: &[f64], inner: &[f64], out: &mut [f64]) -> Result<(
 pub fn forward_rows(n: usize, width: usize, l: &[f64], q: &[f64], out: &mut [f64]) -> Result<(), Refusal> {
     // SAFETY: as above.
     answered(unsafe {
-        mlat_forward_rows(n, width, l.as_ptr(), l.len(), q.as_ptr(), q.len(), out.as_mut_ptr(), out.len())
+        mlat_forward_rows(
+            n,
+            width,
+            l.as_ptr(),
+            l.len(),
+            q.as_ptr(),
+            q.len(),
+            out.as_mut_ptr(),
+            out.len(),
+        )
     })
 }
 

@@ -1,5 +1,5 @@
-use crate::Refusal;
 use crate::refusal::answered;
+use crate::Refusal;
 
 extern "C" {
     fn mlat_clash_patterns(receptions: u32, counts: *mut u64) -> u32;

@@ -40,11 +40,25 @@ pub struct Reception {
 impl Reception {
     /// As receptions.bin has it: the fields in their order, little-endian, with nothing between them.
     pub fn to_bytes(&self) -> [u8; RECEPTION] {
-        let ObservationId { receiver, epoch, timestamp, message } = &self.identity;
+        let ObservationId {
+            receiver,
+            epoch,
+            timestamp,
+            message,
+        } = &self.identity;
         let [x, y, z] = self.site_mm.map(i64::to_le_bytes);
         let all: [&[u8]; 11] = [
-            receiver, &epoch.to_le_bytes(), &timestamp.to_le_bytes(), message, &self.time_ps.to_le_bytes(), &x, &y, &z,
-            &self.z_m.to_le_bytes(), &self.noise_m2.to_le_bytes(), &self.filler.to_le_bytes(),
+            receiver,
+            &epoch.to_le_bytes(),
+            &timestamp.to_le_bytes(),
+            message,
+            &self.time_ps.to_le_bytes(),
+            &x,
+            &y,
+            &z,
+            &self.z_m.to_le_bytes(),
+            &self.noise_m2.to_le_bytes(),
+            &self.filler.to_le_bytes(),
         ];
         all.concat().try_into().expect("132 bytes")
     }

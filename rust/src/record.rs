@@ -4,10 +4,13 @@ use crate::{Altitude, Fix, Refusal};
 /// What a record holds: a fix, or why a solve gave none.
 #[derive(Clone, Copy, Debug, PartialEq)]
 pub enum Record {
+    /// Where the aircraft was.
     Fix(Fix),
     /// With the receptions considered: 1 to 9 show them, the others have 0.
     Refused {
+        /// Why there is no fix.
         refusal: Refusal,
+        /// How many receptions were considered.
         n: u32,
     },
 }
@@ -25,12 +28,14 @@ impl Record {
 extern "C" {
     #[rustfmt::skip]
     fn mlat_read_record(
-        record: *const u8, record_len: usize, words: &mut [u32; 6], numbers: &mut [f64; 18], transmit_ps: &mut i64,
+        record: *const u8,
+        record_len: usize,
+        words: &mut [u32; 6],
+        numbers: &mut [f64; 18],
+        transmit_ps: &mut i64,
     ) -> u32;
     #[rustfmt::skip]
-    fn mlat_write_record(
-        words: &[u32; 6], numbers: &[f64; 18], transmit_ps: i64, out: *mut u8, out_len: usize,
-    ) -> u32;
+    fn mlat_write_record(words: &[u32; 6], numbers: &[f64; 18], transmit_ps: i64, out: *mut u8, out_len: usize) -> u32;
 }
 
 /// A record's fields as the library takes and gives them (include/mlat_solver.h).
@@ -49,7 +54,13 @@ pub fn read(record: &[u8]) -> Result<Record, Refusal> {
     let mut held = Held::default();
     // SAFETY: the record is lent with its length, and the call keeps none of what is lent.
     answered(unsafe {
-        mlat_read_record(record.as_ptr(), record.len(), &mut held.words, &mut held.numbers, &mut held.transmit_ps)
+        mlat_read_record(
+            record.as_ptr(),
+            record.len(),
+            &mut held.words,
+            &mut held.numbers,
+            &mut held.transmit_ps,
+        )
     })?;
     Ok(held.record())
 }
@@ -61,7 +72,13 @@ pub fn write(record: &Record, out: &mut [u8]) -> Result<(), Refusal> {
     let held = Held::of(record);
     // SAFETY: the output is lent with its length, and the call keeps none of what is lent.
     answered(unsafe {
-        mlat_write_record(&held.words, &held.numbers, held.transmit_ps, out.as_mut_ptr(), out.len())
+        mlat_write_record(
+            &held.words,
+            &held.numbers,
+            held.transmit_ps,
+            out.as_mut_ptr(),
+            out.len(),
+        )
     })
 }
 

@@ -1,5 +1,5 @@
 use crate::refusal::answered;
-use crate::{RECORD, Refusal};
+use crate::{Refusal, RECORD};
 
 /// A file of fix records, lent: whole records one after the other.
 #[derive(Clone, Copy, Debug)]
@@ -11,7 +11,12 @@ extern "C" {
     fn mlat_record_at(file: *const u8, file_len: usize, place: u64, at: &mut u64) -> u32;
     #[rustfmt::skip]
     fn mlat_within(
-        file: *const u8, file_len: usize, point: &[f64; 3], radius: f64, places: *mut u64, places_len: usize,
+        file: *const u8,
+        file_len: usize,
+        point: &[f64; 3],
+        radius: f64,
+        places: *mut u64,
+        places_len: usize,
         count: &mut u64,
     ) -> u32;
     fn mlat_nearest(file: *const u8, file_len: usize, point: &[f64; 3], place: &mut u64) -> u32;
@@ -26,10 +31,12 @@ impl<'a> Records<'a> {
         }
     }
 
+    /// How many records the file has.
     pub fn len(&self) -> usize {
         self.file.len() / RECORD
     }
 
+    /// Whether it has none.
     pub fn is_empty(&self) -> bool {
         self.file.is_empty()
     }
@@ -37,11 +44,17 @@ impl<'a> Records<'a> {
     /// The file's own bytes of the record at a place, from 0; [`Refusal::NoSuchPlace`] past the last.
     pub fn get(&self, place: u64) -> Result<&'a [u8; RECORD], Refusal> {
         let at = offset(self.file, place)? as usize;
-        Ok(self.file[at..].first_chunk().expect("a whole record stands at the offset"))
+        Ok(self.file[at..]
+            .first_chunk()
+            .expect("a whole record stands at the offset"))
     }
 
+    /// The records in the file's order.
     pub fn iter(&self) -> Iter<'a> {
-        Iter { records: *self, place: 0 }
+        Iter {
+            records: *self,
+            place: 0,
+        }
     }
 
     /// The places, from 0, of the fixes at most `radius` metres from an ECEF point, in file order; refused solves are
@@ -63,7 +76,15 @@ impl<'a> Records<'a> {
         let (file, lent) = (self.file, places.len());
         // SAFETY: file and buffer are lent with their lengths, apart from each other, and the call keeps none of them.
         answered(unsafe {
-            mlat_within(file.as_ptr(), file.len(), point, radius, places.as_mut_ptr(), lent, &mut count)
+            mlat_within(
+                file.as_ptr(),
+                file.len(),
+                point,
+                radius,
+                places.as_mut_ptr(),
+                lent,
+                &mut count,
+            )
         })?;
         Ok(count as usize)
     }

@@ -5,7 +5,10 @@ use std::fmt;
 #[derive(Clone, Copy, Debug, PartialEq, Eq)]
 pub enum Refusal {
     /// Fewer receptions included than 4 (3 with an altitude).
-    TooFew { included: u32 },
+    TooFew {
+        /// How many there are.
+        included: u32,
+    },
     /// No start converges.
     NoConvergence,
     /// No fit is plausible, or the transmit time leaves i64.
@@ -25,7 +28,10 @@ pub enum Refusal {
     /// Over 32 receptions.
     TooMany,
     /// A reception's identity is not above the one before.
-    Disorder { index: u32 },
+    Disorder {
+        /// Its place, from 1: the first has none before it.
+        index: u32,
+    },
     /// A field outside its domain, or a filler that is not zero.
     BadField(Field),
     /// The clock covariance is not n × n.
@@ -57,8 +63,17 @@ pub enum Refusal {
 /// Where a number lies outside its domain.
 #[derive(Clone, Copy, Debug, PartialEq, Eq)]
 pub enum Field {
-    Reception { index: u32 },
-    ClockRow { row: u32 },
+    /// In a reception.
+    Reception {
+        /// Its place, from 0.
+        index: u32,
+    },
+    /// In a row of the clock covariance.
+    ClockRow {
+        /// From 0.
+        row: u32,
+    },
+    /// In the altitude.
     Altitude,
 }
 
@@ -112,6 +127,7 @@ impl Refusal {
         })
     }
 
+    /// Its number, 1 to 24: of document 01 or 02.
     pub fn number(&self) -> u32 {
         match self {
             Refusal::TooFew { .. } => 1,

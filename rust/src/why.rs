@@ -1,25 +1,47 @@
-use crate::{Problem, Reception, Refusal, Reported, lent};
+use crate::{lent, Problem, Reception, Refusal, Reported};
 
-/// The length of a state in a buffer, and the least buffer, which has room for 32.
+/// The length of a state in a buffer.
 pub const STATE: usize = 20;
+/// The least buffer: it has room for 32 states.
 pub const STATES: usize = 640;
 
 /// What a reception is to the fix of its problem.
 #[derive(Clone, Copy, Debug, PartialEq)]
 pub enum State {
     /// Used, with its normalised residual: at most 5.
-    Used { residual: f64 },
+    Used {
+        /// In standard deviations.
+        residual: f64,
+    },
     /// Removed by the screen, in this turn, from 1, in which it was in so many failing pairs.
-    Removed { turn: u32, clashes: u32 },
+    Removed {
+        /// The turn of the screen, from 1.
+        turn: u32,
+        /// The failing pairs that it had in that turn.
+        clashes: u32,
+    },
     /// Kept by the screen and left out of the fix, with a normalised residual above 5.
-    LeftOut { residual: f64 },
+    LeftOut {
+        /// In standard deviations.
+        residual: f64,
+    },
 }
 
 extern "C" {
     #[rustfmt::skip]
     fn mlat_why(
-        receptions: *const u8, receptions_len: usize, clock: *const u8, clock_len: usize, altitude: *const u8, altitude_len: usize,
-        reference: *const u8, reference_len: usize, present: u32, states: *mut u8, states_len: usize, detail: &mut u32,
+        receptions: *const u8,
+        receptions_len: usize,
+        clock: *const u8,
+        clock_len: usize,
+        altitude: *const u8,
+        altitude_len: usize,
+        reference: *const u8,
+        reference_len: usize,
+        present: u32,
+        states: *mut u8,
+        states_len: usize,
+        detail: &mut u32,
     ) -> u32;
 }
 
@@ -38,8 +60,18 @@ pub fn why_bytes(
     // SAFETY: each pointer is lent with its length, the buffer is apart from the inputs, and the call keeps none of them.
     unsafe {
         mlat_why(
-            receptions.as_ptr(), receptions.len(), clock.as_ptr(), clock.len(), altitude.as_ptr(), altitude.len(),
-            reference.as_ptr(), reference.len(), present, states.as_mut_ptr(), states.len(), detail,
+            receptions.as_ptr(),
+            receptions.len(),
+            clock.as_ptr(),
+            clock.len(),
+            altitude.as_ptr(),
+            altitude.len(),
+            reference.as_ptr(),
+            reference.len(),
+            present,
+            states.as_mut_ptr(),
+            states.len(),
+            detail,
         )
     }
 }
@@ -47,7 +79,9 @@ pub fn why_bytes(
 /// The state of every reception of a problem, in the order in which they are given; or why the problem has no fix.
 pub fn why(problem: &Problem) -> Result<Vec<State>, Refusal> {
     let receptions: Vec<u8> = problem.receptions.iter().flat_map(Reception::to_bytes).collect();
-    let clock: Option<Vec<u8>> = problem.clock_m2.map(|entries| entries.iter().flat_map(|entry| entry.to_le_bytes()).collect());
+    let clock: Option<Vec<u8>> = problem
+        .clock_m2
+        .map(|entries| entries.iter().flat_map(|entry| entry.to_le_bytes()).collect());
     let altitude = problem.altitude.as_ref().map(Reported::to_bytes);
     let (mut states, mut detail) = ([0; STATES], 0);
     let number = why_bytes(
@@ -60,7 +94,11 @@ pub fn why(problem: &Problem) -> Result<Vec<State>, Refusal> {
     );
     match Refusal::of(number, detail) {
         Some(refusal) => Err(refusal),
-        None => Ok(states.chunks_exact(STATE).take(problem.receptions.len()).map(state).collect()),
+        None => Ok(states
+            .chunks_exact(STATE)
+            .take(problem.receptions.len())
+            .map(state)
+            .collect()),
     }
 }
 
@@ -70,7 +108,10 @@ fn state(bytes: &[u8]) -> State {
     let residual = f64::from_le_bytes(bytes[12..STATE].try_into().expect("eight bytes"));
     match word(0) {
         1 => State::Used { residual },
-        2 => State::Removed { turn: word(4), clashes: word(8) },
+        2 => State::Removed {
+            turn: word(4),
+            clashes: word(8),
+        },
         _ => State::LeftOut { residual },
     }
 }

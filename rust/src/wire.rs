@@ -1,5 +1,5 @@
 use crate::refusal::answered;
-use crate::{Fix, RECORD, Record, Refusal, write};
+use crate::{write, Fix, Record, Refusal, RECORD};
 
 /// A position as the wire writes it.
 #[derive(Clone, Copy, Debug, Default, PartialEq, Eq)]
@@ -15,9 +15,11 @@ pub struct Wire {
 /// A position on WGS 84.
 #[derive(Clone, Copy, Debug, Default, PartialEq)]
 pub struct Position {
+    /// Degrees, north above 0.
     pub latitude_deg: f64,
+    /// Degrees, east above 0.
     pub longitude_deg: f64,
-    /// Above WGS 84.
+    /// Metres above WGS 84.
     pub height_m: f64,
 }
 
@@ -34,7 +36,11 @@ pub fn to_wire(record: &[u8]) -> Result<Wire, Refusal> {
     // SAFETY: the record is lent with its length, and the call keeps none of what is lent.
     answered(unsafe { mlat_to_wire(record.as_ptr(), record.len(), &mut wire) })?;
     let [latitude_e7, longitude_e7, height_mm] = wire;
-    Ok(Wire { latitude_e7, longitude_e7, height_mm })
+    Ok(Wire {
+        latitude_e7,
+        longitude_e7,
+        height_mm,
+    })
 }
 
 impl Fix {
@@ -55,6 +61,10 @@ impl Wire {
         // SAFETY: both arrays are lent whole, and the call keeps neither.
         answered(unsafe { mlat_from_wire(&[self.latitude_e7, self.longitude_e7, self.height_mm], &mut position) })?;
         let [latitude_deg, longitude_deg, height_m] = position;
-        Ok(Position { latitude_deg, longitude_deg, height_m })
+        Ok(Position {
+            latitude_deg,
+            longitude_deg,
+            height_m,
+        })
     }
 }

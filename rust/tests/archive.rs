@@ -1,6 +1,6 @@
 //! Records moved to the archive's form and back: the recorded moves of the oracle, and those of a file.
 
-use jifrosk::{ARCHIVED, RECORD, Record, Records, Refusal, from_archive, read, to_archive};
+use jifrosk::{from_archive, read, to_archive, Record, Records, Refusal, ARCHIVED, RECORD};
 
 /// crates/replay_archive/RECORDING.md has the form.
 const CASES: &str = concat!(env!("CARGO_MANIFEST_DIR"), "/../crates/replay_archive/stdin");
@@ -25,8 +25,15 @@ fn the_recorded_moves_are_the_oracles() {
         let record = taken(&mut bytes, two(2));
         let after = taken(&mut bytes, two(4));
         let mut out = vec![0xa5; after.len()];
-        let moved = if head[0] == 1 { from_archive(record, &mut out) } else { to_archive(record, &mut out) };
-        assert_eq!(moved.map_or_else(|refusal| refusal.number(), |()| 0), u32::from(head[1]));
+        let moved = if head[0] == 1 {
+            from_archive(record, &mut out)
+        } else {
+            to_archive(record, &mut out)
+        };
+        assert_eq!(
+            moved.map_or_else(|refusal| refusal.number(), |()| 0),
+            u32::from(head[1])
+        );
         assert_eq!(out, after);
         count += 1;
     }
@@ -37,7 +44,11 @@ fn the_recorded_moves_are_the_oracles() {
 fn a_files_records_are_moved_and_come_back() {
     let [old, new] = [OLD, NEW].map(|path| std::fs::read(path).expect("the file of crates/move_archive"));
     assert_eq!(old.len() / RECORD, new.len() / ARCHIVED);
-    for (record, form) in Records::new(&old).expect("whole records").iter().zip(new.chunks_exact(ARCHIVED)) {
+    for (record, form) in Records::new(&old)
+        .expect("whole records")
+        .iter()
+        .zip(new.chunks_exact(ARCHIVED))
+    {
         let held = read(record).expect("a record of a solve");
         assert_eq!(held.to_archive().as_ref().map(<[u8; ARCHIVED]>::as_slice), Ok(form));
         assert_eq!(Record::from_archive(form), Ok(held));
@@ -47,10 +58,13 @@ fn a_files_records_are_moved_and_come_back() {
 #[test]
 fn an_unequal_mirror_is_turned_away_and_minus_zero_is_not_zero() {
     let old = std::fs::read(OLD).expect("the file of crates/move_archive");
-    let fixes = Records::new(&old).expect("whole records").iter().filter_map(|record| match read(record) {
-        Ok(Record::Fix(fix)) => Some(fix),
-        _ => None,
-    });
+    let fixes = Records::new(&old)
+        .expect("whole records")
+        .iter()
+        .filter_map(|record| match read(record) {
+            Ok(Record::Fix(fix)) => Some(fix),
+            _ => None,
+        });
     for fix in fixes {
         let mut zeros = fix;
         (zeros.covariance_m2[0][1], zeros.covariance_m2[1][0]) = (0.0, -0.0);

@@ -1,6 +1,8 @@
 //! Items I020/041 and I020/105: the recorded calls of the oracle, document 02's own numbers, fixes of the solve.
 
-use jifrosk::{ITEMS, Multiples, RECORD, Record, Records, Refusal, Wire, read, read_asterix, to_asterix, to_wire, write_asterix};
+use jifrosk::{
+    read, read_asterix, to_asterix, to_wire, write_asterix, Multiples, Record, Records, Refusal, Wire, ITEMS, RECORD,
+};
 
 /// crates/replay_asterix/RECORDING.md has the form.
 const CALLS: &str = concat!(env!("CARGO_MANIFEST_DIR"), "/../crates/replay_asterix/stdin");
@@ -21,11 +23,19 @@ fn three(bytes: &[u8]) -> [i32; 3] {
 }
 
 fn wire_of([latitude_e7, longitude_e7, height_mm]: [i32; 3]) -> Wire {
-    Wire { latitude_e7, longitude_e7, height_mm }
+    Wire {
+        latitude_e7,
+        longitude_e7,
+        height_mm,
+    }
 }
 
 fn multiples_of([latitude, longitude, height]: [i32; 3]) -> Multiples {
-    Multiples { latitude, longitude, height }
+    Multiples {
+        latitude,
+        longitude,
+        height,
+    }
 }
 
 #[test]
@@ -61,24 +71,55 @@ fn recorded_calls_are_answered_alike() {
 
 #[test]
 fn document_02s_numbers() {
-    let items = |latitude_e7, longitude_e7, height_mm| Wire { latitude_e7, longitude_e7, height_mm }.to_asterix();
-    assert_eq!(items(900_000_000, 1_800_000_000, 1_905), Ok([1, 0, 0, 0, 0xfe, 0, 0, 0, 0, 1]));
-    assert_eq!(items(-900_000_000, -1_800_000_000, -1_905), Ok([0xff, 0, 0, 0, 0xfe, 0, 0, 0, 0xff, 0xff]));
+    let items = |latitude_e7, longitude_e7, height_mm| {
+        Wire {
+            latitude_e7,
+            longitude_e7,
+            height_mm,
+        }
+        .to_asterix()
+    };
+    assert_eq!(
+        items(900_000_000, 1_800_000_000, 1_905),
+        Ok([1, 0, 0, 0, 0xfe, 0, 0, 0, 0, 1])
+    );
+    assert_eq!(
+        items(-900_000_000, -1_800_000_000, -1_905),
+        Ok([0xff, 0, 0, 0, 0xfe, 0, 0, 0, 0xff, 0xff])
+    );
     // the first longitude that comes to 180 degrees, and the one before it
     assert_eq!(items(0, 1_799_999_974, 952), Ok([0, 0, 0, 0, 0xfe, 0, 0, 0, 0, 0]));
-    assert_eq!(items(0, 1_799_999_973, 953), Ok([0, 0, 0, 0, 1, 0xff, 0xff, 0xff, 0, 1]));
-    for (latitude, longitude, height) in [(900_000_001, 0, 0), (0, -1_800_000_001, 0), (0, 0, 62_422_088), (0, 0, i32::MIN)] {
+    assert_eq!(
+        items(0, 1_799_999_973, 953),
+        Ok([0, 0, 0, 0, 1, 0xff, 0xff, 0xff, 0, 1])
+    );
+    for (latitude, longitude, height) in [
+        (900_000_001, 0, 0),
+        (0, -1_800_000_001, 0),
+        (0, 0, 62_422_088),
+        (0, 0, i32::MIN),
+    ] {
         assert_eq!(items(latitude, longitude, height), Err(Refusal::BeyondTheItems));
     }
-    let outside = Multiples { height: 32_768, ..Multiples::default() };
+    let outside = Multiples {
+        height: 32_768,
+        ..Multiples::default()
+    };
     assert_eq!(outside.to_items(), Err(Refusal::BeyondTheItems));
 }
 
 #[test]
 fn a_file_of_records_becomes_items() {
-    let (file, written) = (std::fs::read(FILE).expect("the file"), std::fs::read(WRITTEN).expect("its items"));
+    let (file, written) = (
+        std::fs::read(FILE).expect("the file"),
+        std::fs::read(WRITTEN).expect("its items"),
+    );
     let records = Records::new(&file).expect("whole records");
-    let items: Vec<u8> = records.iter().filter_map(|record| to_wire(record).ok()?.to_asterix().ok()).flatten().collect();
+    let items: Vec<u8> = records
+        .iter()
+        .filter_map(|record| to_wire(record).ok()?.to_asterix().ok())
+        .flatten()
+        .collect();
     assert_eq!(items, written);
     let mut fixes = 0;
     for record in records.iter() {

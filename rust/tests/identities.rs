@@ -1,19 +1,27 @@
 //! The order of `ObservationId` beside the one that the proved solve asks of its receptions: it refuses by 11 where an
 //! identity is not above the one before.
 
-use jifrosk::{ObservationId, RECORD, Reception, solve_bytes, solve_receptions};
+use jifrosk::{solve_bytes, solve_receptions, ObservationId, Reception, RECORD};
 
 /// Whether the solve takes b after a, asked with a list of structs and with the bytes of a file. Two receptions are too
 /// few, which is found out after their order.
 fn ascend(a: ObservationId, b: ObservationId) -> bool {
-    let pair = [a, b].map(|identity| Reception { identity, noise_m2: 1.0, ..Reception::default() });
+    let pair = [a, b].map(|identity| Reception {
+        identity,
+        noise_m2: 1.0,
+        ..Reception::default()
+    });
     let file: Vec<u8> = pair.iter().flat_map(Reception::to_bytes).collect();
     let clock = [0; 32];
     let (mut listed, mut lent) = ([0; RECORD], [0; RECORD]);
     let answer = solve_receptions(&pair, Some(&clock), None, None, &mut listed);
     assert_eq!(solve_bytes(&file, Some(&clock), None, None, &mut lent), answer);
     assert_eq!(listed, lent);
-    assert!(answer == 1 || answer == 11 && listed[4] == 1, "answer {answer}, detail {}", listed[4]);
+    assert!(
+        answer == 1 || answer == 11 && listed[4] == 1,
+        "answer {answer}, detail {}",
+        listed[4]
+    );
     answer == 1
 }
 
@@ -80,9 +88,15 @@ fn fields_at_their_ends() {
     for (receiver, message) in bytes.iter().flat_map(|a| bytes.iter().map(|b| (*a, *b))) {
         for epoch in [0, 255, 256, u32::MAX >> 1, u32::MAX] {
             for timestamp in [0, 255, 256, u64::MAX >> 1, u64::MAX] {
-                all.push(ObservationId { receiver, epoch, timestamp, message });
+                all.push(ObservationId {
+                    receiver,
+                    epoch,
+                    timestamp,
+                    message,
+                });
             }
         }
     }
-    all.iter().for_each(|a| all.iter().step_by(7).for_each(|b| held(*a, *b)));
+    all.iter()
+        .for_each(|a| all.iter().step_by(7).for_each(|b| held(*a, *b)));
 }

@@ -1,6 +1,6 @@
 //! The calculations with matrices: results that can be told by hand, what holds of every result, and sizes that do not match.
 
-use jifrosk::{Refusal, cholesky, forward_rows, inverse_diagonal, inverse_triangular, sandwich};
+use jifrosk::{cholesky, forward_rows, inverse_diagonal, inverse_triangular, sandwich, Refusal};
 
 /// What stands where nothing may be written.
 const MARK: f64 = -1234.5;
@@ -28,7 +28,10 @@ fn a_factor_of_whole_numbers() {
     assert_eq!(forward_rows(2, 3, &l, &[2.0, 4.0, 0.0, 7.0, 10.0, 8.0], &mut r), Ok(()));
     assert_eq!(r, [1.0, 2.0, 0.0, 1.0, 1.0, 2.0]);
     let mut s = [MARK; 4];
-    assert_eq!(sandwich(2, &[1.0, 2.0, 2.0, 3.0], &[1.0, 0.0, 0.0, 2.0], &mut s), Ok(()));
+    assert_eq!(
+        sandwich(2, &[1.0, 2.0, 2.0, 3.0], &[1.0, 0.0, 0.0, 2.0], &mut s),
+        Ok(())
+    );
     assert_eq!(s, [9.0, 14.0, 14.0, 22.0]);
 }
 
@@ -76,7 +79,10 @@ fn sizes_that_do_not_match_are_turned_away() {
     let zeros = [0.0; 1200];
     // sizes whose square wraps among them
     for n in [1, 3, 33, 34, 1 << 32, usize::MAX] {
-        for length in [0, 1, 9, 33, 1_024, 1_089, 1_200].into_iter().filter(|length| n > 32 || *length != n * n) {
+        for length in [0, 1, 9, 33, 1_024, 1_089, 1_200]
+            .into_iter()
+            .filter(|length| n > 32 || *length != n * n)
+        {
             let mut out = vec![MARK; length];
             let slice = &zeros[..length];
             assert_eq!(sandwich(n, slice, slice, &mut out), Err(Refusal::WrongSize));
@@ -84,14 +90,23 @@ fn sizes_that_do_not_match_are_turned_away() {
             assert_eq!(inverse_diagonal(n, slice, &mut out), Err(Refusal::WrongSize));
             assert_eq!(cholesky(n, slice, &mut out), Err(Refusal::WrongSize));
             assert_eq!(forward_rows(n, n, slice, slice, &mut out), Err(Refusal::WrongSize));
-            assert_eq!(forward_rows(1, n, &zeros[..1], slice, &mut out).is_ok(), n == length && n <= 32);
+            assert_eq!(
+                forward_rows(1, n, &zeros[..1], slice, &mut out).is_ok(),
+                n == length && n <= 32
+            );
             assert!(n == length || out.iter().all(|value| *value == MARK));
         }
     }
     let mut out = [MARK; 9];
     assert_eq!(inverse_diagonal(3, &zeros[..9], &mut out), Err(Refusal::WrongSize));
     assert_eq!(sandwich(3, &zeros[..9], &zeros[..8], &mut out), Err(Refusal::WrongSize));
-    assert_eq!(forward_rows(3, 3, &zeros[..9], &zeros[..9], &mut out[..6]), Err(Refusal::WrongSize));
-    assert_eq!(forward_rows(3, 33, &zeros[..9], &zeros[..99], &mut [MARK; 99]), Err(Refusal::WrongSize));
+    assert_eq!(
+        forward_rows(3, 3, &zeros[..9], &zeros[..9], &mut out[..6]),
+        Err(Refusal::WrongSize)
+    );
+    assert_eq!(
+        forward_rows(3, 33, &zeros[..9], &zeros[..99], &mut [MARK; 99]),
+        Err(Refusal::WrongSize)
+    );
     assert_eq!(out, [MARK; 9]);
 }

@@ -1,6 +1,6 @@
 //! Fixes near a place: the recorded searches of the oracle, and the fixes of recorded solves searched by a plain loop.
 
-use jifrosk::{RECORD, Records, Refusal, read};
+use jifrosk::{read, Records, Refusal, RECORD};
 
 /// crates/replay_near/RECORDING.md has the form.
 const CASES: &str = concat!(env!("CARGO_MANIFEST_DIR"), "/../crates/replay_near/stdin");
@@ -83,7 +83,10 @@ fn refusals_leave_the_buffer_and_come_in_order() {
     let records = Records::new(&file).expect("whole records");
     let point = [0.0; 3];
     let mut short = vec![FOUND; records.len() - 1];
-    assert_eq!(records.within_into(&point, f64::NAN, &mut short), Err(Refusal::ShortOutput));
+    assert_eq!(
+        records.within_into(&point, f64::NAN, &mut short),
+        Err(Refusal::ShortOutput)
+    );
     assert!(short.iter().all(|entry| *entry == FOUND));
     for radius in [-1.0, f64::NAN, f64::INFINITY, 1e8 + 1.0, -5e-324] {
         assert_eq!(records.within(&point, radius), Err(Refusal::BadQuery));

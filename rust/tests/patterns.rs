@@ -1,6 +1,6 @@
 //! How many clash patterns leave each number of survivors: the recorded calls of the oracle, document 02's own numbers.
 
-use jifrosk::{Refusal, clash_patterns};
+use jifrosk::{clash_patterns, Refusal};
 
 /// crates/replay_patterns/RECORDING.md has the form.
 const CALLS: &str = concat!(env!("CARGO_MANIFEST_DIR"), "/../crates/replay_patterns/stdin");
@@ -17,7 +17,11 @@ fn recorded_calls_are_answered_alike() {
         before = Some(case);
         let word = |at: usize| u32::from_le_bytes(case[at..at + 4].try_into().expect("four bytes"));
         let count = |k: usize| u64::from_le_bytes(case[8 + 8 * k..16 + 8 * k].try_into().expect("eight bytes"));
-        let due = if word(4) == 0 { Ok(std::array::from_fn(count)) } else { Err(Refusal::OverSix) };
+        let due = if word(4) == 0 {
+            Ok(std::array::from_fn(count))
+        } else {
+            Err(Refusal::OverSix)
+        };
         assert_eq!(clash_patterns(word(0)), due, "{} receptions", word(0));
         tried[usize::from(due.is_err())] += 1;
     }

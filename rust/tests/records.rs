@@ -1,6 +1,6 @@
 //! Records read back and written again: those of the original's solves, and the recorded cases of the oracle.
 
-use jifrosk::{Altitude, Field, Fix, RECORD, Record, Records, Refusal, read, write};
+use jifrosk::{read, write, Altitude, Field, Fix, Record, Records, Refusal, RECORD};
 
 /// oracle/kept.rs has the form.
 const SOLVED: &str = concat!(env!("CARGO_MANIFEST_DIR"), "/../crates/replay/stdin");
@@ -23,7 +23,10 @@ fn solved() -> Vec<u8> {
     let (mut bytes, mut file) = (recorded.as_slice(), Vec::new());
     while !bytes.is_empty() {
         let head = taken(&mut bytes, 8);
-        taken(&mut bytes, two(head, 0) + two(head, 2) + usize::from(head[4]) + usize::from(head[5]));
+        taken(
+            &mut bytes,
+            two(head, 0) + two(head, 2) + usize::from(head[4]) + usize::from(head[5]),
+        );
         file.extend(taken(&mut bytes, RECORD));
     }
     file
@@ -33,18 +36,21 @@ fn solved() -> Vec<u8> {
 fn every_recorded_record_is_read_and_written_again() {
     let file = solved();
     let records = Records::new(&file).expect("whole records");
-    assert_eq!(records.len(), 2_424);
+    assert_eq!(records.len(), 2_430);
     let mut fixes = 0;
     for record in records {
         let held = read(record).expect("a record of a solve");
-        assert_eq!(held.fix().map_or_else(|refusal| refusal.number(), |_| 0), u32::from(record[0]));
+        assert_eq!(
+            held.fix().map_or_else(|refusal| refusal.number(), |_| 0),
+            u32::from(record[0])
+        );
         fixes += usize::from(held.fix().is_ok());
         let mut out = [0xa5; RECORD + 3];
         assert_eq!(write(&held, &mut out), Ok(()));
         assert_eq!(out[..RECORD], *record);
         assert_eq!(out[RECORD..], [0xa5; 3]);
     }
-    assert_eq!(fixes, 470);
+    assert_eq!(fixes, 471);
 }
 
 #[test]
@@ -70,10 +76,14 @@ fn the_parts_are_the_files_own() {
 fn torn_files_are_refused() {
     let file = solved();
     for length in [1, 175, 177, 3 * RECORD - 1, 3 * RECORD + 1] {
-        assert_eq!(Records::new(&file[..length]).map(|records| records.len()), Err(Refusal::TornFile));
+        assert_eq!(
+            Records::new(&file[..length]).map(|records| records.len()),
+            Err(Refusal::TornFile)
+        );
     }
     let none = Records::new(&[]).expect("no records");
-    assert!(none.is_empty() && none.len() == 0 && none.iter().next().is_none());
+    assert!(none.is_empty() && none.iter().next().is_none());
+    assert_eq!(none.len(), 0);
     assert_eq!(none.get(0), Err(Refusal::NoSuchPlace));
     for length in [0, 1, 175, 177, 352] {
         assert_eq!(read(&file[..length]), Err(Refusal::TornFile));
@@ -153,7 +163,12 @@ fn recorded_cases_are_answered_alike() {
             0 => {
                 let place = u64::from_le_bytes(taken(&mut bytes, 8).try_into().expect("eight bytes"));
                 let file = taken(&mut bytes, length);
-                placed(place, file, number, taken(&mut bytes, 8 + RECORD * usize::from(head[2])))
+                placed(
+                    place,
+                    file,
+                    number,
+                    taken(&mut bytes, 8 + RECORD * usize::from(head[2])),
+                )
             }
             1 => {
                 let record = taken(&mut bytes, length);
@@ -193,11 +208,23 @@ fn values_that_no_read_gives_are_not_written() {
         refused(Refusal::BadField(Field::ClockRow { row: 100 }), 0),
         refused(Refusal::BadField(Field::ClockRow { row: u32::MAX - 99 }), 0),
         Record::Fix(Fix { version: 7, ..fix }),
-        Record::Fix(Fix { dof: fix.dof + 1, ..fix }),
+        Record::Fix(Fix {
+            dof: fix.dof + 1,
+            ..fix
+        }),
         Record::Fix(Fix { n: 33, ..fix }),
-        Record::Fix(Fix { chi2: f64::INFINITY, ..fix }),
-        Record::Fix(Fix { height_m: f64::NAN, ..fix }),
-        Record::Fix(Fix { altitude: Some(Altitude::Gnss(f64::NAN)), ..fix }),
+        Record::Fix(Fix {
+            chi2: f64::INFINITY,
+            ..fix
+        }),
+        Record::Fix(Fix {
+            height_m: f64::NAN,
+            ..fix
+        }),
+        Record::Fix(Fix {
+            altitude: Some(Altitude::Gnss(f64::NAN)),
+            ..fix
+        }),
     ];
     for record in bad {
         let mut out = [0x5a; RECORD];
@@ -218,10 +245,16 @@ fn refusals_have_their_numbers_and_words() {
     for number in 1..=24 {
         let refusal = Refusal::of(number, 7).expect("a refusal");
         assert_eq!(refusal.number(), number);
-        assert_eq!(refusal.detail(), Some(if [1, 11, 12].contains(&number) { 7 } else { 0 }));
+        assert_eq!(
+            refusal.detail(),
+            Some(if [1, 11, 12].contains(&number) { 7 } else { 0 })
+        );
         assert!(words.insert(refusal.to_string()), "{number}: {refusal}");
     }
-    assert_eq!((Refusal::of(0, 0), Refusal::of(25, 0), Refusal::of(u32::MAX, 0)), (None, None, None));
+    assert_eq!(
+        (Refusal::of(0, 0), Refusal::of(25, 0), Refusal::of(u32::MAX, 0)),
+        (None, None, None)
+    );
     for (detail, field) in [
         (0, Field::Reception { index: 0 }),
         (31, Field::Reception { index: 31 }),

@@ -1,6 +1,6 @@
 //! The recorded states: through the bytes, and through `Problem` for the examples.
 
-use jifrosk::{Problem, RECEPTION, Reception, Refusal, Reported, STATE, STATES, State, why, why_bytes};
+use jifrosk::{why, why_bytes, Problem, Reception, Refusal, Reported, State, RECEPTION, STATE, STATES};
 
 const RECORDED: &str = concat!(env!("CARGO_MANIFEST_DIR"), "/../crates/replay_states/stdin");
 
@@ -30,7 +30,13 @@ fn recorded(mut bytes: &[u8]) -> Vec<Recorded<'_>> {
         });
         let there = [3, 0, 1, 2].map(|bit: u8| head[6] >> bit & 1 == 1);
         let (told, more) = rest.split_at(8 + STATES);
-        all.push(Recorded { files, there, number: word(told, 0), detail: word(told, 4), states: &told[8..] });
+        all.push(Recorded {
+            files,
+            there,
+            number: word(told, 0),
+            detail: word(told, 4),
+            states: &told[8..],
+        });
         bytes = more;
     }
     all
@@ -55,29 +61,59 @@ fn part<const N: usize>(bytes: &[u8], at: usize) -> [u8; N] {
 
 /// An example folder as a problem: its receptions and clock covariance, its barometric altitude and the reference.
 fn example(name: &str) -> (Vec<Reception>, Vec<f64>, Reported, i64) {
-    let file = |file: &str| std::fs::read(format!("{}/../examples/{name}/{file}.bin", env!("CARGO_MANIFEST_DIR"))).expect("an example file");
-    let receptions = file("receptions").chunks(RECEPTION).map(|r| Reception::from_bytes(&part(r, 0))).collect();
-    let clock = file("clock").chunks(8).map(|entry| f64::from_le_bytes(part(entry, 0))).collect();
+    let file = |file: &str| {
+        std::fs::read(format!("{}/../examples/{name}/{file}.bin", env!("CARGO_MANIFEST_DIR"))).expect("an example file")
+    };
+    let receptions = file("receptions")
+        .chunks(RECEPTION)
+        .map(|r| Reception::from_bytes(&part(r, 0)))
+        .collect();
+    let clock = file("clock")
+        .chunks(8)
+        .map(|entry| f64::from_le_bytes(part(entry, 0)))
+        .collect();
     let altitude = file("altitude");
     let correction_cm = i32::from_le_bytes(part(&altitude, 4));
-    let altitude = Reported::Barometric { metres: f64::from_le_bytes(part(&altitude, 8)), correction_cm };
-    (receptions, clock, altitude, i64::from_le_bytes(part(&file("reference"), 0)))
+    let altitude = Reported::Barometric {
+        metres: f64::from_le_bytes(part(&altitude, 8)),
+        correction_cm,
+    };
+    (
+        receptions,
+        clock,
+        altitude,
+        i64::from_le_bytes(part(&file("reference"), 0)),
+    )
 }
 
 fn told(name: &str) -> Result<Vec<State>, Refusal> {
     let (receptions, clock, altitude, reference_ps) = example(name);
-    why(&Problem { receptions: &receptions, clock_m2: Some(&clock), altitude: Some(altitude), reference_ps })
+    why(&Problem {
+        receptions: &receptions,
+        clock_m2: Some(&clock),
+        altitude: Some(altitude),
+        reference_ps,
+    })
 }
 
 #[test]
 fn examples_tell_their_receivers() {
     for name in ["fix", "corrected"] {
-        assert!(told(name).expect("a fix").iter().all(|state| matches!(state, State::Used { residual } if *residual <= 5.0)));
+        assert!(told(name)
+            .expect("a fix")
+            .iter()
+            .all(|state| matches!(state, State::Used { residual } if *residual <= 5.0)));
     }
     let screened = told("screened").expect("a fix");
     assert_eq!(screened[4], State::Removed { turn: 1, clashes: 5 });
     assert!(matches!(screened[1], State::LeftOut { residual } if residual > 5.0));
-    assert_eq!(screened.iter().filter(|state| matches!(state, State::Used { .. })).count(), 4);
+    assert_eq!(
+        screened
+            .iter()
+            .filter(|state| matches!(state, State::Used { .. }))
+            .count(),
+        4
+    );
     assert_eq!(told("ambiguous"), Err(Refusal::Ambiguous));
 }
 

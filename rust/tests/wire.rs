@@ -1,6 +1,6 @@
 //! Positions as whole numbers and back: the recorded calls of the oracle, document 02's own numbers, fixes of the solve.
 
-use jifrosk::{Position, RECORD, Record, Records, Refusal, Wire, read, to_wire};
+use jifrosk::{read, to_wire, Position, Record, Records, Refusal, Wire, RECORD};
 
 /// crates/replay_wire/RECORDING.md has the form.
 const CALLS: &str = concat!(env!("CARGO_MANIFEST_DIR"), "/../crates/replay_wire/stdin");
@@ -15,12 +15,20 @@ fn taken<'a>(bytes: &mut &'a [u8], count: usize) -> &'a [u8] {
 
 fn wire_of(bytes: &[u8]) -> Wire {
     let number = |k: usize| i32::from_le_bytes(bytes[4 * k..4 * k + 4].try_into().expect("four bytes"));
-    Wire { latitude_e7: number(0), longitude_e7: number(1), height_mm: number(2) }
+    Wire {
+        latitude_e7: number(0),
+        longitude_e7: number(1),
+        height_mm: number(2),
+    }
 }
 
 fn position_of(bytes: &[u8]) -> Position {
     let number = |k: usize| f64::from_le_bytes(bytes[8 * k..8 * k + 8].try_into().expect("eight bytes"));
-    Position { latitude_deg: number(0), longitude_deg: number(1), height_m: number(2) }
+    Position {
+        latitude_deg: number(0),
+        longitude_deg: number(1),
+        height_m: number(2),
+    }
 }
 
 /// By the bits: -0 is not 0.
@@ -48,7 +56,11 @@ fn recorded_calls_are_answered_alike() {
         } else {
             let wire = wire_of(taken(&mut bytes, 12));
             let after = position_of(taken(&mut bytes, 24));
-            assert_eq!(wire.position().map(|found| bits(&found)), due.map_or(Ok(bits(&after)), Err), "{wire:?}");
+            assert_eq!(
+                wire.position().map(|found| bits(&found)),
+                due.map_or(Ok(bits(&after)), Err),
+                "{wire:?}"
+            );
         }
         tried[usize::from(head[0])] += 1;
     }
@@ -64,9 +76,24 @@ fn fix() -> jifrosk::Fix {
 
 #[test]
 fn document_02s_numbers() {
-    for (degrees, e7) in [(0.5, 5_000_000), (1.0 / 256.0, 39_063), (-1.0 / 256.0, -39_063), (-0.0, 0), (90.0, 900_000_000)] {
-        let placed = jifrosk::Fix { latitude_deg: degrees, longitude_deg: -degrees, height_m: -1_500.0, ..fix() };
-        let wire = Wire { latitude_e7: e7, longitude_e7: -e7, height_mm: -1_500_000 };
+    for (degrees, e7) in [
+        (0.5, 5_000_000),
+        (1.0 / 256.0, 39_063),
+        (-1.0 / 256.0, -39_063),
+        (-0.0, 0),
+        (90.0, 900_000_000),
+    ] {
+        let placed = jifrosk::Fix {
+            latitude_deg: degrees,
+            longitude_deg: -degrees,
+            height_m: -1_500.0,
+            ..fix()
+        };
+        let wire = Wire {
+            latitude_e7: e7,
+            longitude_e7: -e7,
+            height_mm: -1_500_000,
+        };
         assert_eq!(placed.to_wire(), Ok(wire));
         assert_eq!(wire.position().map(|found| found.height_m), Ok(-1_500.0));
     }
@@ -84,15 +111,34 @@ fn what_is_beyond_is_refused() {
         (0.0, 0.0, next(25_000.0)),
         (0.0, 0.0, next(-1_500.0)),
     ] {
-        assert_eq!(jifrosk::Fix { latitude_deg, longitude_deg, height_m, ..fix() }.to_wire(), beyond);
+        assert_eq!(
+            jifrosk::Fix {
+                latitude_deg,
+                longitude_deg,
+                height_m,
+                ..fix()
+            }
+            .to_wire(),
+            beyond
+        );
     }
-    assert_eq!(jifrosk::Fix { latitude_deg: f64::NAN, ..fix() }.to_wire(), Err(Refusal::MalformedRecord));
+    assert_eq!(
+        jifrosk::Fix {
+            latitude_deg: f64::NAN,
+            ..fix()
+        }
+        .to_wire(),
+        Err(Refusal::MalformedRecord)
+    );
     let mut refused = [0; RECORD];
     refused[0] = 7;
     assert_eq!(to_wire(&refused), beyond);
     refused[0] = 14;
     assert_eq!(to_wire(&refused), Err(Refusal::MalformedRecord));
     assert_eq!(to_wire(&refused[1..]), Err(Refusal::TornFile));
-    let wire = Wire { latitude_e7: 900_000_001, ..Wire::default() };
+    let wire = Wire {
+        latitude_e7: 900_000_001,
+        ..Wire::default()
+    };
     assert_eq!(wire.position().map(|_| ()), beyond.map(|_: Wire| ()));
 }
