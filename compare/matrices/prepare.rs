@@ -18,14 +18,23 @@ const REPLACEMENTS: [(&str, &str, usize, &str); 2] = [
 
 fn main() {
     let paths: Vec<String> = std::env::args().skip(1).collect();
-    let [from, to] = paths.as_slice() else {
-        panic!("prepare IN OUT");
-    };
-    let mut text = std::fs::read_to_string(from).expect("the Rust source is readable");
+    if let Err(what) = prepared(&paths) {
+        eprintln!("prepare: {what}");
+        std::process::exit(1);
+    }
+}
+
+fn prepared(paths: &[String]) -> Result<(), String> {
+    let [from, to] = paths else { return Err("usage: prepare IN OUT".to_string()) };
+    let mut text = std::fs::read_to_string(from).map_err(|error| format!("{from}: {error}"))?;
     for (old, new, times, why) in REPLACEMENTS {
-        assert_eq!(text.matches(old).count(), times, "{from}: `{old}` ({why})");
+        let found = text.matches(old).count();
+        if found != times {
+            let shown = old.trim().escape_debug();
+            return Err(format!("{from} is not the original's: it has `{shown}` {found} times, not {times} ({why})"));
+        }
         text = text.replace(old, new);
         println!("replaced {times} x `{}`: {why}", old.trim().escape_debug());
     }
-    std::fs::write(to, text).expect("the copy is writable");
+    std::fs::write(to, text).map_err(|error| format!("{to}: {error}"))
 }
