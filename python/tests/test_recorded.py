@@ -55,7 +55,7 @@ class Recorded(unittest.TestCase):
             self.assertEqual(solve_record(files), record)
             self.assertEqual(held(solve(files)), held(read(record)))
             count += 1
-        self.assertEqual(count, 2424)
+        self.assertEqual(count, 2430)
 
     def test_problems(self):
         count = 0
