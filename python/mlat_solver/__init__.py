@@ -14,7 +14,7 @@ include/mlat_solver.h: a new subject is a module that declares its functions by 
 """
 
 from .archive import ARCHIVED, from_archive, to_archive
-from .geodesy import enu_basis, enu_covariance, from_ecef, horizontal_sigma_m, to_ecef
+from .geodesy import chi2_limit, enu_basis, enu_covariance, from_ecef, from_mm, horizontal_sigma_m, to_ecef, to_mm
 from .library import LibraryNotFound
 from .problem import RECEPTION, Altitude, Files, ObservationId, Problem, Reception
 from .fixes import RECORD, Fix, Records, open_records, read, records, write
@@ -25,7 +25,7 @@ from .wire import Wire, to_wire
 
 __all__ = [
     "ARCHIVED", "Altitude", "Files", "Fix", "LibraryNotFound", "ObservationId", "Problem", "RECEPTION", "RECORD",
-    "Reception", "Records", "Refusal", "State", "Wire", "enu_basis", "enu_covariance", "from_archive", "from_ecef",
-    "horizontal_sigma_m", "open_records", "read", "records", "solve", "solve_many", "solve_many_records",
-    "solve_record", "to_archive", "to_ecef", "to_wire", "why", "write",
+    "Reception", "Records", "Refusal", "State", "Wire", "chi2_limit", "enu_basis", "enu_covariance", "from_archive",
+    "from_ecef", "from_mm", "horizontal_sigma_m", "open_records", "read", "records", "solve", "solve_many",
+    "solve_many_records", "solve_record", "to_archive", "to_ecef", "to_mm", "to_wire", "why", "write",
 ]

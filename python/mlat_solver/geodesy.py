@@ -3,18 +3,34 @@
 from __future__ import annotations
 
 import ctypes
-from typing import Sequence, Tuple
+from typing import Any, Sequence, Tuple
 
-from .library import function
+from .library import fits, function
 
-_Three, _Nine = ctypes.c_double * 3, ctypes.c_double * 9
-_to_ecef = function("mlat_to_ecef", _Three, _Three, result=None)
-_from_ecef = function("mlat_from_ecef", _Three, _Three, result=None)
+#: Three numbers, as the library is lent a point.
+Three = ctypes.c_double * 3
+_Nine, _Whole = ctypes.c_double * 9, ctypes.c_int64 * 3
+_to_ecef = function("mlat_to_ecef", Three, Three, result=None)
+_from_ecef = function("mlat_from_ecef", Three, Three, result=None)
 _enu_basis = function("mlat_enu_basis", ctypes.c_double, ctypes.c_double, _Nine, result=None)
-_enu_covariance = function("mlat_enu_covariance", _Three, _Nine, _Nine, result=None)
-_horizontal_sigma_m = function("mlat_horizontal_sigma_m", _Three, _Nine, result=ctypes.c_double)
+_to_mm = function("mlat_to_mm", Three, _Whole, result=None)
+_from_mm = function("mlat_from_mm", _Whole, Three, result=None)
+_chi2_limit = function("mlat_chi2_limit", ctypes.c_uint32, result=ctypes.c_double)
+_enu_covariance = function("mlat_enu_covariance", Three, _Nine, _Nine, result=None)
+_horizontal_sigma_m = function("mlat_horizontal_sigma_m", Three, _Nine, result=ctypes.c_double)
 
 Row = Tuple[float, ...]
+
+
+def three(numbers: Sequence[float]) -> Any:
+    """A point to lend. ValueError for another count than three."""
+    x, y, z = numbers
+    return Three(x, y, z)
+
+
+def _nine(rows: Sequence[Sequence[float]]) -> Any:
+    first, second, third = rows
+    return _Nine(*three(first), *three(second), *three(third))
 
 
 def _rows(nine: Sequence[float]) -> Tuple[Row, Row, Row]:
@@ -23,15 +39,15 @@ def _rows(nine: Sequence[float]) -> Tuple[Row, Row, Row]:
 
 def to_ecef(geodetic: Sequence[float]) -> Row:
     """Latitude and longitude, degrees, and height above the ellipsoid, metres, as ECEF metres."""
-    out = _Three()
-    _to_ecef(_Three(*geodetic), out)
+    out = Three()
+    _to_ecef(three(geodetic), out)
     return tuple(out)
 
 
 def from_ecef(ecef_m: Sequence[float]) -> Row:
     """ECEF metres as latitude, longitude and height."""
-    out = _Three()
-    _from_ecef(_Three(*ecef_m), out)
+    out = Three()
+    _from_ecef(three(ecef_m), out)
     return tuple(out)
 
 
@@ -42,13 +58,39 @@ def enu_basis(latitude_deg: float, longitude_deg: float) -> Tuple[Row, Row, Row]
     return _rows(out)
 
 
+def to_mm(ecef_m: Sequence[float]) -> Tuple[int, int, int]:
+    """ECEF metres as whole millimetres, as `Reception.site_mm` has them: a half away from zero, beyond an end of 64
+    bits that end, 0 for a not-a-number."""
+    out = _Whole()
+    _to_mm(three(ecef_m), out)
+    return tuple(out)  # type: ignore[return-value]
+
+
+def from_mm(mm: Sequence[int]) -> Row:
+    """Whole millimetres as metres, by one division each. OverflowError beyond 64 bits."""
+    x, y, z = mm
+    if not fits(ctypes.c_int64, x, y, z):
+        raise OverflowError("millimetres have 64 bits")
+    out = Three()
+    _from_mm(_Whole(x, y, z), out)
+    return tuple(out)
+
+
+def chi2_limit(dof: int) -> float:
+    """The chi-square value that the residuals of an exact optimum with so many degrees of freedom may reach; 0 for 0.
+    OverflowError beyond 32 bits."""
+    if not fits(ctypes.c_uint32, dof):
+        raise OverflowError("degrees of freedom have 32 bits, and no sign")
+    return _chi2_limit(dof)
+
+
 def enu_covariance(position: Sequence[float], covariance_m2: Sequence[Sequence[float]]) -> Tuple[Row, Row, Row]:
     """A covariance in ECEF in the frame east, north, up at a latitude, longitude and height."""
     out = _Nine()
-    _enu_covariance(_Three(*position), _Nine(*(entry for row in covariance_m2 for entry in row)), out)
+    _enu_covariance(three(position), _nine(covariance_m2), out)
     return _rows(out)
 
 
 def horizontal_sigma_m(position: Sequence[float], covariance_m2: Sequence[Sequence[float]]) -> float:
     """The standard deviation of the horizontal position, metres."""
-    return _horizontal_sigma_m(_Three(*position), _Nine(*(entry for row in covariance_m2 for entry in row)))
+    return _horizontal_sigma_m(three(position), _nine(covariance_m2))

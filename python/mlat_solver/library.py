@@ -72,7 +72,12 @@ def function(name: str, *arguments: Any, result: Any = ctypes.c_uint32) -> Calla
     return call
 
 
-#: Bytes that are lent, with their length.
+def fits(kind: Any, *numbers: int) -> bool:
+    """Whether an integer type of C holds the numbers: ctypes takes any other too, and drops its upper bits."""
+    return all(kind(number).value == number for number in numbers)
+
+
+#: Bytes that are lent, or numbers, with how many they are.
 LENT: Tuple[Any, Any] = (ctypes.c_void_p, ctypes.c_size_t)
 
 
