@@ -16,6 +16,7 @@ include/mlat_solver.h: a new subject is a module that declares its functions by 
 from .archive import ARCHIVED, from_archive, to_archive
 from .geodesy import chi2_limit, enu_basis, enu_covariance, from_ecef, from_mm, horizontal_sigma_m, to_ecef, to_mm
 from .library import LibraryNotFound
+from .near import nearest, within
 from .problem import RECEPTION, Altitude, Files, ObservationId, Problem, Reception
 from .fixes import RECORD, Fix, Records, open_records, read, records, write
 from .refusal import Refusal
@@ -26,6 +27,6 @@ from .wire import Wire, to_wire
 __all__ = [
     "ARCHIVED", "Altitude", "Files", "Fix", "LibraryNotFound", "ObservationId", "Problem", "RECEPTION", "RECORD",
     "Reception", "Records", "Refusal", "State", "Wire", "chi2_limit", "enu_basis", "enu_covariance", "from_archive",
-    "from_ecef", "from_mm", "horizontal_sigma_m", "open_records", "read", "records", "solve", "solve_many",
-    "solve_many_records", "solve_record", "to_archive", "to_ecef", "to_mm", "to_wire", "why", "write",
+    "from_ecef", "from_mm", "horizontal_sigma_m", "nearest", "open_records", "read", "records", "solve", "solve_many",
+    "solve_many_records", "solve_record", "to_archive", "to_ecef", "to_mm", "to_wire", "why", "within", "write",
 ]

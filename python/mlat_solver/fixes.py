@@ -108,6 +108,10 @@ class Records:
         answered(_record_at(*self._file, place, at))
         return at.value
 
+    def words(self) -> Tuple[Any, int]:
+        """The file's bytes and their length, as the library is lent them."""
+        return self._file
+
     def __len__(self) -> int:
         return self._file[1] // RECORD
 

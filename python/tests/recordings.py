@@ -3,7 +3,7 @@
 import pathlib
 import struct
 
-from mlat_solver import Files
+from mlat_solver import Files, Refusal
 
 REPOSITORY = pathlib.Path(__file__).resolve().parents[2]
 EXAMPLES = REPOSITORY / "examples"
@@ -64,3 +64,53 @@ def wire_calls():
 def archive_calls():
     """crates/replay_archive: kind (0 there, 1 back), number, the record, the output after it."""
     return _calls("replay_archive", lambda head: struct.unpack_from("<HH", head, 2))
+
+
+def near_calls():
+    """crates/replay_near: kind (0 within, 1 nearest), number, the file with point and radius, count or place and the
+    entries lent."""
+    def lengths(head):
+        file, entries = struct.unpack_from("<HH", head, 2)
+        return file + 32, 8 + 8 * entries
+    return _calls("replay_near", lengths)
+
+
+def asterix_calls():
+    """crates/replay_asterix: kind (0 exports, 1 writes, 2 reads), number, given, after."""
+    return _calls("replay_asterix", lambda head: (head[2], 12) if head[0] == 2 else (12, head[2]))
+
+
+def pattern_calls():
+    """crates/replay_patterns: how many receptions, number, the seven counts' bytes."""
+    held = (REPOSITORY / "crates" / "replay_patterns" / "stdin").read_bytes()
+    return struct.iter_unpack("<II56s", held)
+
+
+def matrix_calls():
+    """crates/replay_matrices: kind, number, n, width, the bytes of the first and the second array, of out after it."""
+    held = (REPOSITORY / "crates" / "replay_matrices" / "stdin").read_bytes()
+    at = 0
+    while at < len(held):
+        *head, first, second, out = struct.unpack_from("<4B3H", held, at)
+        parts = []
+        at += 16
+        for count in (first, second, out):
+            parts.append(held[at : at + 8 * count])
+            at += 8 * count
+        yield (*head, *parts)
+
+
+def answer(call, *given):
+    """0 and what a call of the package gives; or its refusal's number, and nothing."""
+    try:
+        return 0, call(*given)
+    except Refusal as refusal:
+        return refusal.number, b""
+
+
+def falsified(number, after, k):
+    """The answer of call k with a bit of its bytes changed, now of one, now of another; without bytes of its number."""
+    if not after:
+        return number ^ 1, after
+    place = k % len(after)
+    return number, after[:place] + bytes([after[place] ^ 1]) + after[place + 1 :]

@@ -1,4 +1,5 @@
-"""Every recorded call of the repository, through the package."""
+"""The recorded solves, and calls of why, records, wire and archive, through the package; test_recorded_*.py have the
+others."""
 
 import ctypes
 import struct
