@@ -14,6 +14,7 @@ include/mlat_solver.h: a new subject is a module that declares its functions by 
 """
 
 from .archive import ARCHIVED, from_archive, to_archive
+from .asterix import ITEMS, Multiples, read_asterix, to_asterix, write_asterix
 from .geodesy import chi2_limit, enu_basis, enu_covariance, from_ecef, from_mm, horizontal_sigma_m, to_ecef, to_mm
 from .library import LibraryNotFound
 from .near import nearest, within
@@ -25,8 +26,9 @@ from .states import State, why
 from .wire import Wire, to_wire
 
 __all__ = [
-    "ARCHIVED", "Altitude", "Files", "Fix", "LibraryNotFound", "ObservationId", "Problem", "RECEPTION", "RECORD",
-    "Reception", "Records", "Refusal", "State", "Wire", "chi2_limit", "enu_basis", "enu_covariance", "from_archive",
-    "from_ecef", "from_mm", "horizontal_sigma_m", "nearest", "open_records", "read", "records", "solve", "solve_many",
-    "solve_many_records", "solve_record", "to_archive", "to_ecef", "to_mm", "to_wire", "why", "within", "write",
+    "ARCHIVED", "Altitude", "Files", "Fix", "ITEMS", "LibraryNotFound", "Multiples", "ObservationId", "Problem",
+    "RECEPTION", "RECORD", "Reception", "Records", "Refusal", "State", "Wire", "chi2_limit", "enu_basis",
+    "enu_covariance", "from_archive", "from_ecef", "from_mm", "horizontal_sigma_m", "nearest", "open_records", "read",
+    "read_asterix", "records", "solve", "solve_many", "solve_many_records", "solve_record", "to_archive", "to_asterix",
+    "to_ecef", "to_mm", "to_wire", "why", "within", "write", "write_asterix",
 ]
