@@ -17,6 +17,7 @@ from .archive import ARCHIVED, from_archive, to_archive
 from .asterix import ITEMS, Multiples, read_asterix, to_asterix, write_asterix
 from .geodesy import chi2_limit, enu_basis, enu_covariance, from_ecef, from_mm, horizontal_sigma_m, to_ecef, to_mm
 from .library import LibraryNotFound
+from .matrices import cholesky, forward_rows, inverse_diagonal, inverse_triangular, sandwich
 from .near import nearest, within
 from .patterns import clash_patterns
 from .problem import RECEPTION, Altitude, Files, ObservationId, Problem, Reception
@@ -28,8 +29,9 @@ from .wire import Wire, to_wire
 
 __all__ = [
     "ARCHIVED", "Altitude", "Files", "Fix", "ITEMS", "LibraryNotFound", "Multiples", "ObservationId", "Problem",
-    "RECEPTION", "RECORD", "Reception", "Records", "Refusal", "State", "Wire", "chi2_limit", "clash_patterns",
-    "enu_basis", "enu_covariance", "from_archive", "from_ecef", "from_mm", "horizontal_sigma_m", "nearest",
-    "open_records", "read", "read_asterix", "records", "solve", "solve_many", "solve_many_records", "solve_record",
-    "to_archive", "to_asterix", "to_ecef", "to_mm", "to_wire", "why", "within", "write", "write_asterix",
+    "RECEPTION", "RECORD", "Reception", "Records", "Refusal", "State", "Wire", "chi2_limit", "cholesky",
+    "clash_patterns", "enu_basis", "enu_covariance", "forward_rows", "from_archive", "from_ecef", "from_mm",
+    "horizontal_sigma_m", "inverse_diagonal", "inverse_triangular", "nearest", "open_records", "read", "read_asterix",
+    "records", "sandwich", "solve", "solve_many", "solve_many_records", "solve_record", "to_archive", "to_asterix",
+    "to_ecef", "to_mm", "to_wire", "why", "within", "write", "write_asterix",
 ]
