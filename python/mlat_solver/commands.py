@@ -5,13 +5,16 @@ from __future__ import annotations
 import argparse
 import csv
 import json
+import math
 import pathlib
 import sys
-from typing import Any, Dict, Iterator, List, Optional, Union
+from typing import Any, Dict, Iterator, List, Optional, Sequence, Union
 
 from . import page
-from .geodesy import enu_covariance
+from .geodesy import enu_covariance, to_ecef
 from .library import LibraryNotFound
+from .near import nearest, within
+from .patterns import clash_patterns
 from .problem import Files
 from .fixes import Fix, Records, open_records, read
 from .refusal import Refusal
@@ -83,10 +86,58 @@ def make_page(words: List[str]) -> int:
     return 0
 
 
+def away(opened: Records, place: int, point: Sequence[float]) -> str:
+    """A place with how far its fix is from a point, to the millimetre: a line of the program find_fixes."""
+    fix = read(opened[place])
+    assert isinstance(fix, Fix)
+    x, y, z = (mine - other for mine, other in zip(fix.ecef_m, point))
+    distance = math.sqrt(x * x + y * y + z * z)
+    if distance * 1000 + 0.5 >= 1 << 64:
+        return f"place {place}, over 10^16 m away"
+    mm = int(distance * 1000 + 0.5)
+    return f"place {place}, {mm // 1000}.{mm % 1000:03} m away"
+
+
+def near(words: List[str]) -> int:
+    """Names the fix of a file of records nearest to a place, then each within RADIUS metres of it, in the file's order.
+    A place is its latitude and longitude, degrees, and height above the ellipsoid, metres."""
+    parser = argparse.ArgumentParser("python -m mlat_solver near", description=near.__doc__)
+    parser.add_argument("file", metavar="FILE")
+    parser.add_argument("--ecef", action="store_true", help="the place is its coordinates X Y Z, metres")
+    for name in ("LATITUDE", "LONGITUDE", "HEIGHT", "RADIUS"):
+        parser.add_argument(name, type=float)
+    given = parser.parse_args(words)
+    place = (given.LATITUDE, given.LONGITUDE, given.HEIGHT)
+    point = place if given.ecef else to_ecef(place)
+    opened = open_records(given.file)
+    first, listed = nearest(opened, point), within(opened, point, given.RADIUS)
+    print("nearest: " + ("none, the file has no fix" if first is None else away(opened, first, point)))
+    for found in listed:
+        print(away(opened, found, point))
+    return 0
+
+
+def patterns(words: List[str]) -> int:
+    """Prints for planners, of all patterns of failing pairs that 0 to 6 receptions can have, how many leave each number
+    of survivors of the screen, and the share that leaves at least four."""
+    argparse.ArgumentParser("python -m mlat_solver patterns", description=patterns.__doc__).parse_args(words)
+    print("Of all patterns of failing pairs, how many leave 0 to 6 survivors of the screen:\n")
+    print("receptions  patterns" + "".join(f"{survivors:8}" for survivors in range(7)) + "  four or more")
+    for receptions in range(7):
+        counts = clash_patterns(receptions)
+        every = sum(counts)
+        # a half up
+        tenths = (1000 * sum(counts[4:]) + every // 2) // every
+        told = f"{receptions:10}{every:10}" + "".join(f"{count:8}" for count in counts)
+        print(f"{told}{tenths // 10:10}.{tenths % 10} %")
+    return 0
+
+
 def show(words: List[str]) -> int:
     """Solves the four files of a folder and shows the fix, and of every receiver whether it is used, and why not.
-    Exit status: 0 a fix, 1 a refusal, 2 nothing was solved. `records FILE` lists a file of records, `page FOLDER -o
-    HTML` writes a page to look at; each has --help."""
+    Exit status: 0 a fix, 1 a refusal, 2 nothing was solved. `records FILE` lists a file of records, `near FILE LATITUDE
+    LONGITUDE HEIGHT RADIUS` names its fixes near a place, `page FOLDER -o HTML` writes a page to look at, `patterns`
+    prints a table for planners; each has --help."""
     parser = argparse.ArgumentParser("python -m mlat_solver", description=show.__doc__)
     parser.add_argument("folder")
     files = Files.of_folder(parser.parse_args(words).folder)
@@ -108,7 +159,8 @@ def show(words: List[str]) -> int:
 def main(words: Optional[List[str]] = None) -> int:
     """Runs a command; its exit status."""
     words = sys.argv[1:] if words is None else words
-    command = {"records": list_records, "page": make_page}.get(words[0] if words else "", show)
+    named = {"records": list_records, "near": near, "page": make_page, "patterns": patterns}
+    command = named.get(words[0] if words else "", show)
     try:
         return command(words if command is show else words[1:])
     except BrokenPipeError:

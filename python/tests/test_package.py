@@ -2,6 +2,7 @@
 
 import array
 import contextlib
+import dataclasses
 import io
 import json
 import mmap
@@ -18,7 +19,7 @@ from html.parser import HTMLParser
 
 import recordings
 from mlat_solver import Altitude, Files, Fix, ObservationId, Problem, Reception, Records, Refusal, open_records, records
-from mlat_solver import commands, drawing, page, solve, solve_record, why
+from mlat_solver import commands, drawing, page, solve, solve_record, why, write
 
 PROGRAMS = recordings.REPOSITORY / "target" / "bin"
 
@@ -175,6 +176,36 @@ class Commands(unittest.TestCase):
         covariance = [one for row in first.covariance_m2 for one in row]
         self.assertEqual([listed[0][f"c{at // 3}{at % 3}"] for at in range(9)], covariance)
         self.assertEqual(run("records", recordings.EXAMPLES / "fix" / "clock.bin")[:2], (2, ""))
+
+    def test_near(self):
+        program = recordings.REPOSITORY / "crates" / "find_fixes"
+        file, *query = (program / "args").read_text().split()
+        due = (program / "stdout").read_text()
+        self.assertEqual(run("near", program / "data" / file, *query)[:2], (0, due))
+        moved = run("near", program / "data" / file, *query[:-1], "2500000")[1]
+        self.assertNotEqual(moved, due)
+        status, out, _ = run("near", recordings.EXAMPLES / "records.bin", "47.6", "-9.3", "11000", "0")
+        self.assertEqual((status, out), (0, "nearest: place 0, 1396784.404 m away\n"))
+
+    def test_near_nothing(self):
+        file = recordings.EXAMPLES / "records.bin"
+        status, out, said = run("near", file, "47.6", "9.3", "11000", "-1")
+        self.assertEqual((status, out), (2, ""))
+        self.assertIn("refusal 22", said)
+        self.assertEqual(run("near", recordings.EXAMPLES / "fix" / "clock.bin", 1, 2, 3, 4)[:2], (2, ""))
+        self.assertEqual(run("near", file, "1", "2", "x", "3")[0], 2)
+        with tempfile.TemporaryDirectory() as folder:
+            path = pathlib.Path(folder, "refused.bin")
+            path.write_bytes((recordings.EXAMPLES / "ambiguous" / "record.bin").read_bytes())
+            self.assertEqual(run("near", path, 1, 2, 3, 4)[:2], (0, "nearest: none, the file has no fix\n"))
+            far = dataclasses.replace(next(records(file)), ecef_m=(1e200, 0.0, 0.0))
+            path.write_bytes(write(far))
+            self.assertEqual(run("near", path, 1, 2, 3, 4)[:2], (0, "nearest: place 0, over 10^16 m away\n"))
+
+    def test_patterns(self):
+        due = (recordings.REPOSITORY / "crates" / "count_patterns" / "stdout").read_text()
+        self.assertEqual(run("patterns"), (0, due, ""))
+        self.assertEqual(run("patterns", "7")[0], 2)
 
     def test_module(self):
         words = [sys.executable, "-m", "mlat_solver", recordings.EXAMPLES / "fix"]
