@@ -8,7 +8,7 @@ import os
 from dataclasses import dataclass
 from typing import Any, Iterator, Optional, Tuple, Union
 
-from .library import LENT, function, lent
+from .library import LENT, fits, function, lent
 from .problem import Altitude, Buffer
 from .refusal import Refusal, answered
 
@@ -72,17 +72,20 @@ def read(record: Buffer) -> Union[Fix, Refusal]:
 
 def write(held: Union[Fix, Refusal]) -> bytes:
     """The record of a fix or a refusal: what was read gives its bytes. Raises `Refusal` 18 for what no record holds."""
+    words: Tuple[int, ...]
     if isinstance(held, Refusal):
-        words, numbers, transmit_ps = _Words(held.number, held.detail, held.n), _Numbers(), 0
+        words, numbers, transmit_ps = (held.number, held.detail, held.n), _Numbers(), 0
     else:
         altitude = held.altitude or Altitude(0, 0.0)
-        words = _Words(0, held.dof, held.n, held.used, held.version, altitude.kind)
+        words = (0, held.dof, held.n, held.used, held.version, altitude.kind)
         covariance = [entry for row in held.covariance_m2 for entry in row]
         numbers = _Numbers(*held.ecef_m, held.t_m, held.latitude_deg, held.longitude_deg, held.height_m, *covariance,
                            held.chi2, altitude.metres)
         transmit_ps = held.transmit_ps
+    if not fits(ctypes.c_uint32, *words) or not fits(ctypes.c_int64, transmit_ps):
+        answered(18)
     out = ctypes.create_string_buffer(RECORD)
-    answered(_write(words, numbers, transmit_ps, out, RECORD))
+    answered(_write(_Words(*words), numbers, transmit_ps, out, RECORD))
     return out.raw
 
 

@@ -151,6 +151,17 @@ class Buffers(unittest.TestCase):
         self.assertEqual(len(Records(memoryview(bytes(352)))), 2)
 
 
+    def test_numbers_that_no_record_holds(self):
+        fix = next(records(recordings.EXAMPLES / "records.bin"))
+        self.assertEqual(write(fix), Records((recordings.EXAMPLES / "records.bin").read_bytes())[0])
+        wrong = [{name: getattr(fix, name) + add} for name in ("n", "used", "dof", "version") for add in (1 << 32, -99)]
+        wrong += [{"transmit_ps": fix.transmit_ps + (1 << 64)}, {"altitude": Altitude(1 + (1 << 32), 0.0)}]
+        for held in [dataclasses.replace(fix, **fields) for fields in wrong] + [Refusal(8 + (1 << 32)), Refusal(-1)]:
+            with self.assertRaises(Refusal) as raised:
+                write(held)
+            self.assertEqual(raised.exception.number, 18)
+
+
 class Commands(unittest.TestCase):
     """python -m mlat_solver."""
 
