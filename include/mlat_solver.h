@@ -5,7 +5,8 @@
    Pointers. One with a length lends that many entries (bytes, doubles, uint64_t or structs), one to an array with its
    size in brackets lends that array, any other one value. What is lent can be read, or written where it is not const,
    for the whole of the call, and is aligned as its type asks; what a call writes overlaps nothing else that is lent to
-   it. Where a length is 0 nothing is read or written, and the pointer may be NULL. No call keeps a pointer. */
+   it. Where a length is 0 nothing is read or written, and the pointer may be NULL (that was tried, and is not proved).
+   No call keeps a pointer. */
 #ifndef MLAT_SOLVER_H
 #define MLAT_SOLVER_H
 
