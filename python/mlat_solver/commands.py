@@ -12,7 +12,6 @@ from typing import Any, Dict, Iterator, List, Optional, Sequence, Union
 
 from . import page
 from .geodesy import enu_covariance, to_ecef
-from .library import LibraryNotFound
 from .near import nearest, within
 from .patterns import clash_patterns
 from .problem import Files
@@ -39,6 +38,14 @@ def row(place: int, held: Union[Fix, Refusal]) -> Dict[str, Any]:
                               held.t_m, held.chi2, held.version, *altitude, *covariance)))
 
 
+def opened_records(file: str) -> Records:
+    """The records of a file; its refusal names it."""
+    try:
+        return open_records(file)
+    except Refusal as refusal:
+        raise OSError(f"{file}: {refusal}") from None
+
+
 def rows(opened: Records) -> Iterator[Dict[str, Any]]:
     """The records of a file; a malformed one has the answer 18."""
     for place, record in enumerate(opened):
@@ -51,12 +58,12 @@ def rows(opened: Records) -> Iterator[Dict[str, Any]]:
 def list_records(words: List[str]) -> int:
     """Lists the records of a file on standard output: `--csv` with a head, or `--json`, an object a line."""
     parser = argparse.ArgumentParser("python -m mlat_solver records", description=list_records.__doc__)
-    parser.add_argument("file")
+    parser.add_argument("file", metavar="FILE", help="a file of records, 176 bytes each")
     form = parser.add_mutually_exclusive_group()
     form.add_argument("--csv", action="store_true", help="comma-separated lines (if nothing is said)")
     form.add_argument("--json", action="store_true", help="a JSON object a line")
     given = parser.parse_args(words)
-    listed = rows(open_records(given.file))
+    listed = rows(opened_records(given.file))
     if given.json:
         for held in listed:
             print(json.dumps(held))
@@ -70,14 +77,20 @@ def list_records(words: List[str]) -> int:
 def make_page(words: List[str]) -> int:
     """Writes a page to look at, of a problem's folder, or of a file of records and a place in it, from 0."""
     parser = argparse.ArgumentParser("python -m mlat_solver page", description=make_page.__doc__)
-    parser.add_argument("folder", metavar="FOLDER|FILE")
-    parser.add_argument("place", type=int, nargs="?", metavar="PLACE")
+    parser.add_argument("folder", metavar="FOLDER|FILE", help="a problem's folder, or a file of records")
+    parser.add_argument("place", type=int, nargs="?", metavar="PLACE", help="which record of the file, from 0")
     parser.add_argument("-o", dest="out", required=True, metavar="HTML", help="the file to write; - is standard output")
     given = parser.parse_args(words)
+    if given.place is None and pathlib.Path(given.folder).is_file():
+        parser.error(f"{given.folder} is a file: which record of it, by its PLACE from 0?")
     if given.place is None:
         seen = page.of_files(given.folder, Files.of_folder(given.folder))
     else:
-        seen = page.of_record(f"{given.folder}, place {given.place}", open_records(given.folder)[given.place])
+        title, opened = f"{given.folder}, place {given.place}", opened_records(given.folder)
+        try:
+            seen = page.of_record(title, opened[given.place])
+        except Refusal as refusal:
+            raise OSError(f"{title}: {refusal}") from None
     written = page.html(seen)
     if given.out == "-":
         sys.stdout.write(written)
@@ -102,14 +115,14 @@ def near(words: List[str]) -> int:
     """Names the fix of a file of records nearest to a place, then each within RADIUS metres of it, in the file's order.
     A place is its latitude and longitude, degrees, and height above the ellipsoid, metres."""
     parser = argparse.ArgumentParser("python -m mlat_solver near", description=near.__doc__)
-    parser.add_argument("file", metavar="FILE")
+    parser.add_argument("file", metavar="FILE", help="a file of records, 176 bytes each")
     parser.add_argument("--ecef", action="store_true", help="the place is its coordinates X Y Z, metres")
-    for name in ("LATITUDE", "LONGITUDE", "HEIGHT", "RADIUS"):
-        parser.add_argument(name, type=float)
+    for name, told in (("LATITUDE", "degrees"), ("LONGITUDE", "degrees"), ("HEIGHT", "metres"), ("RADIUS", "metres")):
+        parser.add_argument(name, type=float, help=told)
     given = parser.parse_args(words)
     place = (given.LATITUDE, given.LONGITUDE, given.HEIGHT)
     point = place if given.ecef else to_ecef(place)
-    opened = open_records(given.file)
+    opened = opened_records(given.file)
     first, listed = nearest(opened, point), within(opened, point, given.RADIUS)
     print("nearest: " + ("none, the file has no fix" if first is None else away(opened, first, point)))
     for found in listed:
@@ -133,17 +146,37 @@ def patterns(words: List[str]) -> int:
     return 0
 
 
+#: The other commands, for --help.
+OTHERS = """other commands, each with --help:
+  records FILE                                    lists a file of records, as CSV or JSON
+  near FILE LATITUDE LONGITUDE HEIGHT RADIUS      names the fixes of a file near a place
+  page FOLDER -o HTML, page FILE PLACE -o HTML    writes a page to look at, of a problem or of a record
+  patterns                                        prints the table of clash patterns, for planners
+
+exit status: 0 done, of FOLDER a fix; 1 a refusal of FOLDER; 2 nothing was done, and standard error says why"""
+
+
+def lengths(files: Files) -> str:
+    """How long the files of a problem are, for one that is refused by its lengths."""
+    held = files._asdict().items()
+    told = [f"{name}.bin {'absent' if part is None else f'{len(part)} bytes'}" for name, part in held]
+    return (", ".join(told) + ": receptions have 132 bytes each, the clock 8 n n for n of them, an altitude 16, a "
+            "reference 8")
+
+
 def show(words: List[str]) -> int:
-    """Solves the four files of a folder and shows the fix, and of every receiver whether it is used, and why not.
-    Exit status: 0 a fix, 1 a refusal, 2 nothing was solved. `records FILE` lists a file of records, `near FILE LATITUDE
-    LONGITUDE HEIGHT RADIUS` names its fixes near a place, `page FOLDER -o HTML` writes a page to look at, `patterns`
-    prints a table for planners; each has --help."""
-    parser = argparse.ArgumentParser("python -m mlat_solver", description=show.__doc__)
-    parser.add_argument("folder")
+    """Solves the four files of a folder and shows the fix, and of every receiver whether it is used, and why not."""
+    usage = "python -m mlat_solver FOLDER\n       python -m mlat_solver records|near|page|patterns .."
+    parser = argparse.ArgumentParser("python -m mlat_solver", usage, show.__doc__, OTHERS,
+                                     formatter_class=argparse.RawDescriptionHelpFormatter)
+    told = "with receptions.bin, clock.bin, altitude.bin and reference.bin; one that is not there is absent"
+    parser.add_argument("folder", metavar="FOLDER", help=told)
     files = Files.of_folder(parser.parse_args(words).folder)
     answer = solve(files)
     if isinstance(answer, Refusal):
         print(f"no fix: {answer}")
+        if answer.name in ("CLOCK_SIZE", "TORN_INPUT"):
+            print(lengths(files))
         return 1
     position = (answer.latitude_deg, answer.longitude_deg, answer.height_m)
     enu = enu_covariance(position, answer.covariance_m2)
@@ -166,6 +199,7 @@ def main(words: Optional[List[str]] = None) -> int:
     except BrokenPipeError:
         sys.stderr.close()
         return 141
-    except (Refusal, OSError, LibraryNotFound) as error:
-        print(f"mlat_solver: {error}", file=sys.stderr)
+    except (Refusal, OSError) as error:
+        known = isinstance(error, OSError) and error.filename and error.strerror
+        print(f"mlat_solver: {error.filename}: {error.strerror}" if known else f"mlat_solver: {error}", file=sys.stderr)
         return 2

@@ -7,6 +7,7 @@ import math
 from html import escape
 from typing import List, NamedTuple, Optional, Sequence, Tuple
 
+from .labels import Box, placed
 from .states import State
 
 #: A normalised residual above this is left out (document 01).
@@ -36,17 +37,23 @@ class Ellipse(NamedTuple):
     bearing_deg: float
 
 
+#: The mark of the fix, beside those of states.
+FIX = -1
 #: The name of a state, and of its class.
-NAMES = {0: "no state", State.USED: "used", State.REMOVED: "removed by the screen", State.LEFT_OUT: "left out"}
+NAMES = {FIX: "the fix", 0: "no state", State.USED: "used", State.REMOVED: "removed by the screen",
+         State.LEFT_OUT: "left out"}
 _CLASSES = {0: "unknown", State.USED: "used", State.REMOVED: "removed", State.LEFT_OUT: "leftout"}
 
 
-def two_sigma(enu: Sequence[Sequence[float]]) -> Ellipse:
-    """The ellipse of two standard deviations of a covariance east, north, up: twice the roots of its eigenvalues."""
+def two_sigma(enu: Sequence[Sequence[float]]) -> Optional[Ellipse]:
+    """The ellipse of two standard deviations of a covariance east, north, up: twice the roots of its eigenvalues. None
+    where the horizontal part is not positive definite, as no solve gives it and a record of a file may have it."""
     east, north, both = enu[0][0], enu[1][1], enu[0][1]
     middle, apart = (east + north) / 2, math.hypot((east - north) / 2, both)
+    if not 0 < middle - apart <= middle + apart < math.inf:
+        return None
     bearing = math.degrees(math.atan2(2 * both, north - east) / 2) % 180
-    return Ellipse(2 * math.sqrt(middle + apart), 2 * math.sqrt(max(middle - apart, 0.0)), bearing)
+    return Ellipse(2 * math.sqrt(middle + apart), 2 * math.sqrt(middle - apart), bearing)
 
 
 def _closed(*points: Point) -> str:
@@ -55,7 +62,13 @@ def _closed(*points: Point) -> str:
 
 
 def shape(state: int, x: float, y: float, size: float = 6.0) -> str:
-    """A mark: a full circle used, an open diamond left out, a cross removed, an open square without a state."""
+    """A mark: a full circle used, an open diamond left out, a cross removed, an open square without a state, a star the
+    fix."""
+    if state == FIX:
+        turns = [math.pi * k / 5 for k in range(10)]
+        points = [((1.7 - k % 2) * size * math.sin(turn), (k % 2 - 1.7) * size * math.cos(turn))
+                  for k, turn in enumerate(turns)]
+        return f'<path class="fix" d="{_closed(*((x + right, y + down) for right, down in points))}"/>'
     kind = f'class="{_CLASSES[state]}"'
     if state == State.USED:
         return f'<circle {kind} cx="{x:.1f}" cy="{y:.1f}" r="{size:.1f}"/>'
@@ -70,7 +83,7 @@ def shape(state: int, x: float, y: float, size: float = 6.0) -> str:
 
 def icon(state: int) -> str:
     """The mark in a line of text."""
-    return f'<svg class="icon" viewBox="0 0 20 20" aria-hidden="true">{shape(state, 10, 10)}</svg>'
+    return f'<svg class="icon" viewBox="0 0 22 22" aria-hidden="true">{shape(state, 11, 11)}</svg>'
 
 
 def _svg(height: float, title: str, told: str, parts: Sequence[str]) -> str:
@@ -79,8 +92,8 @@ def _svg(height: float, title: str, told: str, parts: Sequence[str]) -> str:
 
 
 def metres(length: float) -> str:
-    """A length with its unit."""
-    return f"{length / 1000:,.6g} km" if length >= 1000 else f"{length:.6g} m"
+    """A length with its unit, to the metre or the tenth of a kilometre."""
+    return f"{length / 1000:,.1f} km" if length >= 1000 else f"{length:.0f} m"
 
 
 def _scale(unit: float) -> List[str]:
@@ -89,14 +102,11 @@ def _scale(unit: float) -> List[str]:
     ten = 10.0 ** math.floor(math.log10(most))
     length = max(step * ten for step in (1, 2, 5) if step * ten <= most)
     wide = length / unit
+    told = f"{length / 1000:,.6g} km" if length >= 1000 else f"{length:.6g} m"
     return [f'<path class="line" d="M16 376V384H{16 + wide:.1f}V376"/>',
-            f'<text x="{24 + wide:.1f}" y="386">{metres(length)}</text>',
+            f'<text x="{24 + wide:.1f}" y="386">{told}</text>',
             '<path class="line" d="M384 40V16M379 23L384 14L389 23"/>',
             '<text x="384" y="54" text-anchor="middle">N</text>']
-
-
-def _fix(x: float, y: float) -> str:
-    return f'<path class="fix" d="{_closed((x, y - 11), (x + 8, y + 8), (x, y + 4), (x - 8, y + 8))}"/>'
 
 
 def _oval(ellipse: Ellipse, centre: Point, unit: float) -> str:
@@ -107,13 +117,26 @@ def _oval(ellipse: Ellipse, centre: Point, unit: float) -> str:
 
 def _told(mark: Mark) -> str:
     east, north = mark.place
-    return (f"{mark.label}: {metres(round(abs(east)))} {'east' if east >= 0 else 'west'}, {metres(round(abs(north)))} "
+    return (f"{mark.label}: {metres(abs(east))} {'east' if east >= 0 else 'west'}, {metres(abs(north))} "
             f"{'north' if north >= 0 else 'south'}, {NAMES[mark.state]}")
 
 
-def plane(marks: Sequence[Mark], ellipse: Optional[Ellipse]) -> str:
-    """The receivers, and with an ellipse the fix that they are placed about, north up, at one scale east and north."""
-    fixed = ellipse is not None
+def _labels(marks: Sequence[Mark], points: Sequence[Point], centre: Point, fixed: bool) -> Tuple[List[str], List[str]]:
+    """The lines to the marks of those numbers that are far from them, and the numbers."""
+    # the arrow to the north, the scale and the fix are kept free
+    others = [Box(384, 36, 12, 26), Box(120, 380, 112, 12)] + ([Box(*centre, 11, 11)] if fixed else [])
+    lines, texts = [], []
+    for mark, (x, y), label in zip(marks, points, placed(points, [mark.label for mark in marks], others, centre, SIDE)):
+        if label.far:
+            lines.append(f'<path class="lead" d="M{x:.1f} {y:.1f}L{label.x:.1f} {label.y:.1f}"/>')
+        texts.append(f'<text class="label" x="{label.x:.1f}" y="{label.y + 5:.1f}" text-anchor="middle">'
+                     f"{escape(mark.label)}</text>")
+    return lines, texts
+
+
+def plane(marks: Sequence[Mark], fixed: bool, ellipse: Optional[Ellipse]) -> str:
+    """The receivers, and the fix that they are placed about, with its ellipse; north up, at one scale east and
+    north."""
     points = [mark.place for mark in marks] + ([(0.0, 0.0)] if fixed else [])
     low, high = [[pick(point[axis] for point in points) for axis in (0, 1)] for pick in (min, max)]
     unit = max(high[0] - low[0], high[1] - low[1], 1.0) / (SIDE - 110)
@@ -123,20 +146,19 @@ def plane(marks: Sequence[Mark], ellipse: Optional[Ellipse]) -> str:
         return SIDE / 2 + (point[0] - middle[0]) / unit, SIDE / 2 - (point[1] - middle[1]) / unit
 
     parts = []
-    centre = seen((0.0, 0.0))
-    for mark in marks:
-        x, y = seen(mark.place)
+    centre, shown = seen((0.0, 0.0)), [seen(mark.place) for mark in marks]
+    for mark, (x, y) in zip(marks, shown):
         if fixed and mark.state in (State.USED, State.LEFT_OUT):
             to = f"L{centre[0]:.1f} {centre[1]:.1f}"
             parts.append(f'<path class="ray {_CLASSES[mark.state]}" d="M{x:.1f} {y:.1f}{to}"/>')
-    for mark in marks:
-        x, y = seen(mark.place)
-        parts.append(shape(mark.state, x, y))
-        # the number on the side away from the middle
-        off, anchor = (11, "start") if not fixed or x >= centre[0] else (-11, "end")
-        parts.append(f'<text x="{x + off:.1f}" y="{y + 5:.1f}" text-anchor="{anchor}">{escape(mark.label)}</text>')
+    lines, texts = _labels(marks, shown, centre if fixed else (SIDE / 2, SIDE / 2), fixed)
+    parts += lines
+    parts += [shape(mark.state, x, y, 6.0 if len(marks) <= 12 else 5.0) for mark, (x, y) in zip(marks, shown)]
+    parts += texts
     if ellipse:
-        parts += [_oval(ellipse, centre, unit), _fix(*centre)]
+        parts.append(_oval(ellipse, centre, unit))
+    if fixed:
+        parts.append(shape(FIX, *centre))
     title = "Receivers and fix, seen from above" if fixed else "Receivers, seen from above"
     return _svg(SIDE, title, "; ".join(map(_told, marks)), parts + _scale(unit))
 
@@ -146,7 +168,7 @@ def closeup(ellipse: Ellipse) -> str:
     unit = max(ellipse.major_m, 1e-3) / (SIDE / 2 - 60)
     half = SIDE / 2
     cross = f'<path class="grid" d="M{half} 20V360M20 {half}H380"/>'
-    parts = [cross, _oval(ellipse, (half, half), unit), _fix(half, half)]
+    parts = [cross, _oval(ellipse, (half, half), unit), shape(FIX, half, half)]
     told = (f"Half axes {ellipse.major_m:.1f} m and {ellipse.minor_m:.1f} m, the longer at a bearing of "
             f"{ellipse.bearing_deg:.0f} degrees from north")
     return _svg(SIDE, "The fix and its ellipse of two standard deviations", told, parts + _scale(unit))

@@ -5,6 +5,7 @@ from __future__ import annotations
 import ctypes
 import mmap
 import os
+import stat
 from dataclasses import dataclass
 from typing import Any, Iterator, Optional, Tuple, Union
 
@@ -128,10 +129,12 @@ class Records:
 
 
 def open_records(file: Union[str, os.PathLike[str]]) -> Records:
-    """The records of a file, which is mapped and not read at once."""
+    """The records of a file, which is mapped and not read at once; a pipe is read. Raises `Refusal` 16 where it is not
+    whole records."""
     with open(file, "rb") as opened:
-        if os.fstat(opened.fileno()).st_size == 0:
-            return Records(b"")
+        if not stat.S_ISREG(os.fstat(opened.fileno()).st_mode) or os.fstat(opened.fileno()).st_size == 0:
+            # a pipe has no length and cannot be mapped; nor can an empty file
+            return Records(opened.read())
         # a private copy by page, of which none is made, for nothing is written: ctypes lends only what could be
         return Records(mmap.mmap(opened.fileno(), 0, access=mmap.ACCESS_COPY))
 

@@ -46,10 +46,10 @@ def library() -> ctypes.CDLL:
         try:
             return ctypes.CDLL(place)
         except OSError as error:
-            tried.append(f"  {place}: {error}")
+            tried.append(place if "No such file" in str(error) else f"{place} ({error})")
     raise LibraryNotFound(
-        "the shared library of mlat_solver was not found. ./install puts it below a prefix, tools/shared_library into "
-        f"the repository's target/; {VARIABLE} may name its file. Tried:\n" + "\n".join(tried)
+        "the shared library of mlat_solver was not found: ./install puts it below a prefix, tools/shared_library into "
+        f"the repository's target/, and {VARIABLE} may name its file. Looked for: {', '.join(tried)}"
     )
 
 

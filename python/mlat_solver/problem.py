@@ -11,9 +11,26 @@ from typing import Any, NamedTuple, Optional, Sequence, Tuple, Union
 #: A reception of receptions.bin, 132 bytes, for `struct`: receiver, epoch, timestamp, message, time, site, z, noise,
 #: filler.
 RECEPTION = struct.Struct("<32sIQ32sq3q2dQ")
+#: altitude.bin, 16 bytes: kind, filler, correction, metres. reference.bin, 8 bytes.
+ALTITUDE, REFERENCE = struct.Struct("<B3xid"), struct.Struct("<q")
 
 #: An object that has its bytes to lend: bytes, bytearray, memoryview, array.array, a numpy array.
 Buffer = Any
+
+
+def _packed(form: struct.Struct, names: str, *values: Any) -> bytes:
+    """The bytes of named values; a TypeError or a ValueError says which of them cannot be written."""
+    try:
+        return form.pack(*values)
+    except struct.error:
+        letters = form.format.lstrip("<").replace("32s", "s").replace("3q", "qqq").replace("2d", "dd").replace("3x", "")
+        for name, letter, value in zip(names.split(), letters, values):
+            try:
+                struct.pack("<32s" if letter == "s" else "<" + letter, value)
+            except struct.error as error:
+                known = isinstance(value, bytes) if letter == "s" else isinstance(value, (int, float))
+                raise (ValueError if known else TypeError)(f"{name} is {value!r}: {error}") from None
+        raise
 
 
 @dataclass(frozen=True, order=True)
@@ -53,12 +70,17 @@ class Reception:
         known = self.identity
         if len(known.receiver) != 32 or len(known.message) != 32:
             raise ValueError("receiver and message have 32 bytes each")
-        return RECEPTION.pack(known.receiver, known.epoch, known.timestamp, known.message, self.time_ps, *self.site_mm,
-                              self.z_m, self.noise_m2, self.filler)
+        if len(self.site_mm) != 3:
+            raise ValueError("site_mm has three numbers")
+        names = "receiver epoch timestamp message time_ps site_mm site_mm site_mm z_m noise_m2 filler"
+        return _packed(RECEPTION, names, known.receiver, known.epoch, known.timestamp, known.message, self.time_ps,
+                       *self.site_mm, self.z_m, self.noise_m2, self.filler)
 
     @classmethod
     def from_bytes(cls, reception: Buffer) -> Reception:
-        """That of 132 bytes of receptions.bin."""
+        """That of 132 bytes of receptions.bin; a ValueError for another length."""
+        if memoryview(reception).nbytes != RECEPTION.size:
+            raise ValueError(f"a reception has 132 bytes, not {memoryview(reception).nbytes}")
         receiver, epoch, timestamp, message, time_ps, x, y, z, z_m, noise_m2, filler = RECEPTION.unpack(reception)
         return cls(ObservationId(receiver, epoch, timestamp, message), time_ps, (x, y, z), z_m, noise_m2, filler)
 
@@ -89,7 +111,16 @@ class Altitude:
 
     def to_bytes(self) -> bytes:
         """The bytes of altitude.bin."""
-        return struct.pack("<B3xid", self.kind, self.correction_cm, self.metres)
+        return _packed(ALTITUDE, "kind correction_cm metres", self.kind, self.correction_cm, self.metres)
+
+
+def _lendable(name: str, buffer: Any) -> Buffer:
+    """The buffer; a TypeError for what is none."""
+    try:
+        memoryview(buffer)
+    except TypeError:
+        raise TypeError(f"{name}: a list or a buffer is needed, not {type(buffer).__name__}") from None
+    return buffer
 
 
 class Files(NamedTuple):
@@ -103,11 +134,13 @@ class Files(NamedTuple):
 
     @classmethod
     def of_folder(cls, folder: Union[str, os.PathLike[str]]) -> Files:
-        """Those of a folder: a file that is not there is absent, one that cannot be read is an OSError."""
+        """Those of a folder: a file that is not there is absent. A folder that is not there or has none of the four,
+        and a file that cannot be read, are an OSError."""
         names = [pathlib.Path(folder, f"{name}.bin") for name in cls._fields]
-        if not any(os.path.lexists(name) for name in names):
+        there = os.listdir(folder)
+        if not any(name.name in there for name in names):
             raise FileNotFoundError(f"{folder} has none of receptions.bin, clock.bin, altitude.bin and reference.bin")
-        return cls(*(name.read_bytes() if os.path.lexists(name) else None for name in names))
+        return cls(*(name.read_bytes() if name.name in there else None for name in names))
 
     def files(self) -> Files:
         """Itself, as of a `Problem`."""
@@ -130,19 +163,24 @@ class Problem:
     def files(self) -> Files:
         """The bytes that the solve is lent."""
         return Files(self._receptions(), self._clock(), self.altitude.to_bytes() if self.altitude else None,
-                     struct.pack("<q", self.reference_ps))
+                     _packed(REFERENCE, "reference_ps", self.reference_ps))
 
     def _receptions(self) -> Buffer:
-        if isinstance(self.receptions, (list, tuple)):
-            return b"".join(reception.to_bytes() for reception in self.receptions)
-        memoryview(self.receptions)  # or a TypeError
-        return self.receptions
+        if not isinstance(self.receptions, (list, tuple)):
+            return _lendable("receptions", self.receptions)
+        wrong = [type(one).__name__ for one in self.receptions if not isinstance(one, Reception)]
+        if wrong:
+            raise TypeError(f"receptions are a list of Reception, or a buffer: one is of type {wrong[0]}")
+        return b"".join(reception.to_bytes() for reception in self.receptions)
 
     def _clock(self) -> Optional[Buffer]:
         if self.clock_m2 is None or isinstance(self.clock_m2, bytes):
             return self.clock_m2
         if isinstance(self.clock_m2, (list, tuple)):
-            return struct.pack(f"<{len(self.clock_m2)}d", *self.clock_m2)
-        if memoryview(self.clock_m2).format.lstrip("<=@") not in ("d", "B"):
+            try:
+                return struct.pack(f"<{len(self.clock_m2)}d", *self.clock_m2)
+            except struct.error:
+                raise TypeError("clock_m2 has floats one after the other, row by row, and no rows of its own") from None
+        if memoryview(_lendable("clock_m2", self.clock_m2)).format.lstrip("<=@") not in ("d", "B"):
             raise TypeError("the clock covariance has to be binary64, as array('d') and numpy's float64 are")
         return self.clock_m2

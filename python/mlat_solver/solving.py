@@ -5,12 +5,14 @@ from __future__ import annotations
 import ctypes
 import os
 from concurrent.futures import ThreadPoolExecutor
-from typing import Any, Iterable, List, Optional, Tuple, Union
+from typing import Any, Callable, Iterable, List, Optional, Tuple, TypeVar, Union
 
 from .library import LENT, function, lent
 from .problem import Files, Problem
 from .fixes import RECORD, Fix, read
 from .refusal import Refusal
+
+Given = TypeVar("Given")
 
 _solve = function("mlat_solve", *LENT, *LENT, *LENT, *LENT, ctypes.c_uint32, ctypes.c_char_p, ctypes.c_size_t)
 
@@ -18,6 +20,8 @@ _solve = function("mlat_solve", *LENT, *LENT, *LENT, *LENT, ctypes.c_uint32, cty
 def inputs(problem: Union[Problem, Files]) -> Tuple[Any, ...]:
     """The first nine words of `mlat_solve` and `mlat_why`: four inputs with their lengths, and which of the last three
     there are."""
+    if not isinstance(problem, (Problem, Files)):
+        raise TypeError(f"what is solved is a Problem or Files, not {type(problem).__name__}")
     receptions, *others = problem.files()
     present = sum(1 << bit for bit, other in enumerate(others) if other is not None)
     words = [word for part in (receptions, *others) for word in lent(part)]
@@ -36,21 +40,24 @@ def solve(problem: Union[Problem, Files]) -> Union[Fix, Refusal]:
     return read(solve_record(problem))
 
 
-def _solve_chunk(problems: List[Union[Problem, Files]]) -> List[bytes]:
-    return [solve_record(problem) for problem in problems]
-
-
-def solve_many(problems: Iterable[Union[Problem, Files]], threads: Optional[int] = None) -> List[Union[Fix, Refusal]]:
-    """The answers of many problems, in their order, by so many threads (the machine's processors, if none is said)."""
-    return [read(record) for record in solve_many_records(problems, threads)]
-
-
-def solve_many_records(problems: Iterable[Union[Problem, Files]], threads: Optional[int] = None) -> List[bytes]:
-    """The same as records."""
+def _each(call: Callable[[Any], Given], problems: Iterable[Any], threads: Optional[int]) -> List[Given]:
+    """What a call gives of each of many, in their order, by threads."""
+    threads = os.cpu_count() or 1 if threads is None else threads
+    if threads < 1:
+        raise ValueError(f"threads are one or more, not {threads}")
     listed = list(problems)
-    threads = threads or os.cpu_count() or 1
     # some chunks for each thread, since problems take different times
     size = max(1, min(256, len(listed) // (8 * threads)))
     chunks = [listed[at : at + size] for at in range(0, len(listed), size)]
     with ThreadPoolExecutor(threads) as pool:
-        return [record for chunk in pool.map(_solve_chunk, chunks) for record in chunk]
+        return [given for chunk in pool.map(lambda chunk: list(map(call, chunk)), chunks) for given in chunk]
+
+
+def solve_many(problems: Iterable[Union[Problem, Files]], threads: Optional[int] = None) -> List[Union[Fix, Refusal]]:
+    """The answers of many problems, in their order, by so many threads (the machine's processors, if none is said)."""
+    return _each(solve, problems, threads)
+
+
+def solve_many_records(problems: Iterable[Union[Problem, Files]], threads: Optional[int] = None) -> List[bytes]:
+    """The same as records, 176 bytes each."""
+    return _each(solve_record, problems, threads)

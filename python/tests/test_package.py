@@ -2,10 +2,13 @@
 
 import array
 import contextlib
+import ctypes
 import dataclasses
 import io
 import json
+import math
 import mmap
+import os
 import pathlib
 import pickle
 import re
@@ -13,13 +16,15 @@ import struct
 import subprocess
 import sys
 import tempfile
+import threading
 import unittest
 import xml.etree.ElementTree as ElementTree
 from html.parser import HTMLParser
 
 import recordings
 from mlat_solver import Altitude, Files, Fix, ObservationId, Problem, Reception, Records, Refusal, open_records, records
-from mlat_solver import commands, drawing, page, solve, solve_record, why, write
+from mlat_solver import commands, drawing, page, solve, solve_many, solve_record, to_ecef, why, write
+from mlat_solver.library import LENT, library
 
 PROGRAMS = recordings.REPOSITORY / "target" / "bin"
 
@@ -118,8 +123,72 @@ class Buffers(unittest.TestCase):
             self.skipTest("numpy is not there")
         files = example("outlier")
         clock = numpy.frombuffer(files.clock).reshape(6, 6)
-        receptions = numpy.frombuffer(files.receptions, dtype="V132").copy()
-        self.assertEqual(solve_record(self.outlier(receptions, clock)), solve_record(files))
+        fields = [("receiver", "V32"), ("epoch", "<u4"), ("timestamp", "<u8"), ("message", "V32"), ("time_ps", "<i8"),
+                  ("site_mm", "<i8", 3), ("z_m", "<f8"), ("noise_m2", "<f8"), ("filler", "<u8")]
+        named = numpy.frombuffer(files.receptions, dtype=fields)
+        for receptions in (numpy.frombuffer(files.receptions, dtype="V132"), named, named.copy()):
+            self.assertEqual(solve_record(self.outlier(receptions, clock)), solve_record(files))
+            self.assertEqual(solve_record(self.outlier(receptions, clock.copy())), solve_record(files))
+        keys = [ObservationId(bytes(one["receiver"]), one["epoch"], one["timestamp"], bytes(one["message"]))
+                for one in named]
+        listed = [Reception(key, one["time_ps"], tuple(one["site_mm"]), one["z_m"], one["noise_m2"])
+                  for key, one in zip(keys, named)]
+        self.assertEqual(solve_record(self.outlier(listed, list(clock.ravel()))), solve_record(files))
+        for wrong in (clock.astype("f4"), clock.astype(">f8"), numpy.asfortranarray(clock), clock[::2]):
+            with self.assertRaises(TypeError):
+                solve(self.outlier(named, wrong))
+
+    def test_wrong_types(self):
+        """One line, which names what is wrong."""
+        identity = ObservationId(bytes(32))
+        for error, part, call in (
+            (TypeError, "a Problem or Files, not str", lambda: solve("examples/fix")),
+            (TypeError, "a Problem or Files, not tuple", lambda: solve_many([(b"", b"")], 2)),
+            (TypeError, "receptions: a list or a buffer is needed, not int", lambda: solve(Problem(3))),
+            (TypeError, "one is of type str", lambda: solve(Problem(["a"]))),
+            (TypeError, "clock_m2: a list or a buffer is needed, not int", lambda: solve(Problem([], 3))),
+            (TypeError, "clock_m2 has floats", lambda: solve(Problem([], [[0.0]]))),
+            (TypeError, "time_ps is '5'", lambda: Reception(identity, "5", (0, 0, 0), 0.0, 1.0).to_bytes()),
+            (ValueError, "site_mm is 1.5", lambda: Reception(identity, 5, (0, 1.5, 0), 0.0, 1.0).to_bytes()),
+            (ValueError, "site_mm has three", lambda: Reception(identity, 5, (0, 0), 0.0, 1.0).to_bytes()),
+            (TypeError, "noise_m2 is None", lambda: Reception(identity, 5, (0, 0, 0), 0.0, None).to_bytes()),
+            (ValueError, "epoch is 4294967296", lambda: solve(Problem([Reception(
+                ObservationId(bytes(32), 1 << 32), 5, (0, 0, 0), 0.0, 1.0)]))),
+            (ValueError, "correction_cm is", lambda: Altitude.barometric(1.0, 1 << 31).to_bytes()),
+            (ValueError, "reference_ps is", lambda: solve(Problem([], reference_ps=1 << 63))),
+            (ValueError, "132 bytes, not 131", lambda: Reception.from_bytes(bytes(131))),
+            (ValueError, "one or more, not 0", lambda: solve_many([], 0)),
+        ):
+            with self.assertRaises(error) as raised:
+                call()
+            self.assertIn(part, str(raised.exception))
+            self.assertNotIn("\n", str(raised.exception))
+
+    def seen_at_work(self, kind):
+        """Whether another thread sees a search with its first place written and its last one not."""
+        n, none = 200000, 1 << 40
+        file = (recordings.EXAMPLES / "fix" / "record.bin").read_bytes() * n
+        call = kind(library()._name).mlat_within
+        longs = ctypes.POINTER(ctypes.c_uint64)
+        call.argtypes = (*LENT, ctypes.POINTER(ctypes.c_double), ctypes.c_double, longs, ctypes.c_size_t, longs)
+        places, count = (ctypes.c_uint64 * n).from_buffer(array.array("Q", [none]) * n), ctypes.c_uint64()
+        point = (ctypes.c_double * 3)(*to_ecef((47.6, 9.3, 11000.0)))
+        thread = threading.Thread(target=call, args=(file, len(file), point, 1e6, places, n, count))
+        thread.start()
+        seen = False
+        while thread.is_alive():
+            # the first before the last: so a search that was done in between is not seen
+            seen = seen or places[0] == 0 and places[n - 1] == none
+        thread.join()
+        self.assertEqual((places[0], places[n - 1], count.value), (0, n - 1, n))
+        return seen
+
+    def test_the_lock_is_let_go(self):
+        """By CDLL, as the package has it, another thread sees the library at work; by PyDLL, which keeps the lock, none
+        could."""
+        self.assertIs(type(library()), ctypes.CDLL)
+        self.assertTrue(any(self.seen_at_work(ctypes.CDLL) for _ in range(100)))
+        self.assertFalse(any(self.seen_at_work(ctypes.PyDLL) for _ in range(10)))
 
     def test_keys(self):
         with self.assertRaises(ValueError):
@@ -174,6 +243,36 @@ class Commands(unittest.TestCase):
         self.assertEqual((status, out), (1, "no fix: refusal 8: two places fit about as well\n"))
         self.assertEqual(run(recordings.EXAMPLES)[0], 2)
         self.assertEqual(run()[0], 2)
+
+    def test_said(self):
+        """What cannot be done is said in one line that names it."""
+        with tempfile.TemporaryDirectory() as folder:
+            torn = pathlib.Path(folder, "receptions.bin")
+            torn.write_bytes(bytes(131))
+            status, out, _ = run(folder)
+            self.assertEqual((status, out.count("\n")), (1, 2))
+            self.assertIn("refusal 15", out)
+            self.assertIn("receptions.bin 131 bytes, clock.bin absent", out)
+            for words, part in (
+                ((pathlib.Path(folder, "none"),), "none: No such file or directory"),
+                ((torn,), "receptions.bin: Not a directory"),
+                (("records", torn), "receptions.bin: refusal 16"),
+                (("records", folder), ": Is a directory"),
+                (("page", torn, 0, "-o", "-"), "receptions.bin: refusal 16"),
+                (("page", recordings.EXAMPLES / "records.bin", 4, "-o", "-"), "records.bin, place 4: refusal 17"),
+                (("page", recordings.EXAMPLES / "fix", "-o", pathlib.Path(folder, "a", "b")), "b: No such file"),
+            ):
+                status, out, said = run(*words)
+                self.assertEqual((status, out, said.count("\n")), (2, "", 1))
+                self.assertIn(part, said)
+        self.assertIn("by its PLACE", run("page", recordings.EXAMPLES / "records.bin", "-o", "-")[2])
+
+    @unittest.skipUnless(hasattr(os, "mkfifo"), "no pipes have names here")
+    def test_a_pipe_is_read(self):
+        words = [sys.executable, "-m", "mlat_solver", "records", "/dev/stdin", "--json"]
+        with open(recordings.EXAMPLES / "records.bin", "rb") as file:
+            ended = subprocess.run(words, input=file.read(), stdout=subprocess.PIPE, check=True)
+        self.assertEqual(len(ended.stdout.splitlines()), 4)
 
     def test_listing(self):
         file = recordings.EXAMPLES / "records.bin"
@@ -257,9 +356,10 @@ class Page(unittest.TestCase):
         self.assertNotIn("url(", out)
         for svg in re.findall("<svg.*?</svg>", out):
             ElementTree.fromstring(svg)
-        for svg in re.findall("<figure><svg.*?</svg>", out):
+        for svg in re.findall("<figure [^>]*><svg.*?</svg>", out):
             self.assertIn("<title>", svg)
             self.assertIn("<desc>", svg)
+        self.assertIn("Where the numbers come from", out)
         return out
 
     def test_screened(self):
@@ -291,6 +391,25 @@ class Page(unittest.TestCase):
         ellipse = drawing.two_sigma(((9.0, 0.0), (0.0, 4.0)))
         self.assertEqual((ellipse.major_m, ellipse.minor_m, ellipse.bearing_deg), (6.0, 4.0, 90.0))
         self.assertAlmostEqual(drawing.two_sigma(((5.0, 3.0), (3.0, 5.0))).bearing_deg, 45.0)
+        for wrong in ((4.0, 3.0, 2.0), (-4.0, 0.0, -2.0), (1e308, 0.0, 1e308), (0.0, 0.0, 0.0)):
+            self.assertIsNone(drawing.two_sigma((wrong[:2], wrong[1:])))
+
+    def test_ellipse_by_another_way(self):
+        """Of all directions, the one in which two standard deviations reach farthest, from the record's covariance by
+        the sines and cosines of its place."""
+        fix = solve(example("screened"))
+        shown = dict((name, value) for name, value, _ in page.numbers(fix))["Two-sigma ellipse, half axes"]
+        phi, lam = math.radians(fix.latitude_deg), math.radians(fix.longitude_deg)
+        east = (-math.sin(lam), math.cos(lam), 0.0)
+        north = (-math.sin(phi) * math.cos(lam), -math.sin(phi) * math.sin(lam), math.cos(phi))
+        reach = {}
+        for degree in range(180):
+            turn = math.radians(degree)
+            way = [math.sin(turn) * e + math.cos(turn) * n for e, n in zip(east, north)]
+            both = sum(a * b * fix.covariance_m2[i][j] for i, a in enumerate(way) for j, b in enumerate(way))
+            reach[degree] = 2 * math.sqrt(both)
+        far = max(reach, key=reach.get)
+        self.assertEqual(shown, f"{reach[far]:.1f} m at {far}° from north, {min(reach.values()):.1f} m")
 
 
 if __name__ == "__main__":
