@@ -2,10 +2,10 @@
 
     from mlat_solver import Altitude, Fix, Problem, solve
 
-    receptions = sorted(heard, key=lambda reception: reception.identity)
+    receptions = sorted(heard, key=lambda reception: reception.id)
     answer = solve(Problem(receptions, clock_m2, Altitude.barometric(9144.0, correction_cm=-350)))
     if isinstance(answer, Fix):
-        print(answer.latitude_deg, answer.longitude_deg, answer.height_m)
+        print(answer.position.lat_deg, answer.position.lon_deg, answer.position.height_m)
     else:
         print(answer)  # a Refusal: its number, in words
 
@@ -15,7 +15,8 @@ include/mlat_solver.h: a new subject is a module that declares its functions by 
 
 from .archive import ARCHIVED, from_archive, to_archive
 from .asterix import ITEMS, Multiples, read_asterix, to_asterix, write_asterix
-from .geodesy import chi2_limit, enu_basis, enu_covariance, from_ecef, from_mm, horizontal_sigma_m, to_ecef, to_mm
+from .geodesy import Geodetic, chi2_limit, enu_basis, enu_covariance, from_ecef, from_mm, horizontal_sigma_m, to_ecef
+from .geodesy import to_mm
 from .library import LibraryNotFound
 from .matrices import cholesky, forward_rows, inverse_diagonal, inverse_triangular, sandwich
 from .near import nearest, within
@@ -28,8 +29,8 @@ from .states import State, why
 from .wire import Wire, to_wire
 
 __all__ = [
-    "ARCHIVED", "Altitude", "Files", "Fix", "ITEMS", "LibraryNotFound", "Multiples", "ObservationId", "Problem",
-    "RECEPTION", "RECORD", "Reception", "Records", "Refusal", "State", "Wire", "chi2_limit", "cholesky",
+    "ARCHIVED", "Altitude", "Files", "Fix", "Geodetic", "ITEMS", "LibraryNotFound", "Multiples", "ObservationId",
+    "Problem", "RECEPTION", "RECORD", "Reception", "Records", "Refusal", "State", "Wire", "chi2_limit", "cholesky",
     "clash_patterns", "enu_basis", "enu_covariance", "forward_rows", "from_archive", "from_ecef", "from_mm",
     "horizontal_sigma_m", "inverse_diagonal", "inverse_triangular", "nearest", "open_records", "read", "read_asterix",
     "records", "sandwich", "solve", "solve_many", "solve_many_records", "solve_record", "to_archive", "to_asterix",

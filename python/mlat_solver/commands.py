@@ -11,7 +11,7 @@ import sys
 from typing import Any, Dict, Iterator, List, Optional, Sequence, Union
 
 from . import page
-from .geodesy import enu_covariance, to_ecef
+from .geodesy import to_ecef
 from .near import nearest, within
 from .patterns import clash_patterns
 from .problem import Files
@@ -31,11 +31,10 @@ def row(place: int, held: Union[Fix, Refusal]) -> Dict[str, Any]:
     """A record's fields by the names of `COLUMNS`, floats so that they are read back to the bit."""
     if isinstance(held, Refusal):
         return dict(zip(COLUMNS, (place, held.number, held.name, held.detail, held.n)))
-    covariance = [entry for line in held.covariance_m2 for entry in line]
+    covariance = [entry for line in held.covariance for entry in line]
     altitude = (held.altitude.kind, held.altitude.metres) if held.altitude else (0, None)
-    position = (held.latitude_deg, held.longitude_deg, held.height_m)
-    return dict(zip(COLUMNS, (place, 0, "FIX", held.dof, held.n, held.used, *position, held.transmit_ps, *held.ecef_m,
-                              held.t_m, held.chi2, held.version, *altitude, *covariance)))
+    return dict(zip(COLUMNS, (place, 0, "FIX", held.dof, held.n, held.used, *held.position, held.transmit_ps,
+                              *held.ecef, held.t_m, held.chi2, held.spec, *altitude, *covariance)))
 
 
 def opened_records(file: str) -> Records:
@@ -103,7 +102,7 @@ def away(opened: Records, place: int, point: Sequence[float]) -> str:
     """A place with how far its fix is from a point, to the millimetre: a line of the program find_fixes."""
     fix = read(opened[place])
     assert isinstance(fix, Fix)
-    x, y, z = (mine - other for mine, other in zip(fix.ecef_m, point))
+    x, y, z = (mine - other for mine, other in zip(fix.ecef, point))
     distance = math.sqrt(x * x + y * y + z * z)
     if distance * 1000 + 0.5 >= 1 << 64:
         return f"place {place}, over 10^16 m away"
@@ -178,8 +177,7 @@ def show(words: List[str]) -> int:
         if answer.name in ("CLOCK_SIZE", "TORN_INPUT"):
             print(lengths(files))
         return 1
-    position = (answer.latitude_deg, answer.longitude_deg, answer.height_m)
-    enu = enu_covariance(position, answer.covariance_m2)
+    position, enu = answer.position, answer.enu_covariance()
     print(f"latitude {position[0]:.7f}, longitude {position[1]:.7f} degrees, height {position[2]:.1f} m")
     sigma = [f"{name} {enu[k][k] ** 0.5:.1f} m" for k, name in enumerate(("east", "north", "up"))]
     print("standard deviations " + ", ".join(sigma))

@@ -9,6 +9,7 @@ import stat
 from dataclasses import dataclass
 from typing import Any, Iterator, Optional, Tuple, Union
 
+from .geodesy import Geodetic, enu_covariance, horizontal_sigma_m
 from .library import LENT, fits, function, lent
 from .problem import Altitude, Buffer
 from .refusal import Refusal, answered
@@ -27,34 +28,43 @@ Row = Tuple[float, float, float]
 
 @dataclass(frozen=True)
 class Fix:
-    """A solved position."""
+    """A solved position: `Solution` of the source, by its names. What was considered and used the source has as lists
+    of identities, and a record as a number and a mask of places."""
 
+    #: The version of the source's specification: 8.
+    spec: int
+    #: Metres.
+    ecef: Row
+    #: WGS 84: degrees, degrees, metres above the ellipsoid.
+    position: Geodetic
+    #: Transmit time, metres of light after the reference; the source does not show it.
+    t_m: float
+    #: Time of transmission on the timeline of the reference, picoseconds.
+    transmit_ps: int
+    #: Of the position, ECEF, m², rows in order.
+    covariance: Tuple[Row, Row, Row]
     #: Receptions considered.
     n: int
     #: Bit i is set where reception i, from 0, was used.
     used: int
-    #: Degrees of freedom: used receptions, plus one with an altitude, less 4.
-    dof: int
-    #: Metres.
-    ecef_m: Row
-    #: Transmit time, metres of light after the reference.
-    t_m: float
-    #: Degrees, WGS 84.
-    latitude_deg: float
-    longitude_deg: float
-    #: Above the ellipsoid.
-    height_m: float
-    transmit_ps: int
-    #: Of the position, ECEF, m², rows in order.
-    covariance_m2: Tuple[Row, Row, Row]
-    chi2: float
-    version: int
     #: As it was given, without a station's correction.
     altitude: Optional[Altitude]
+    #: The squares of the whitened residuals, added up.
+    chi2: float
+    #: Degrees of freedom: used receptions, plus one with an altitude, less 4.
+    dof: int
 
     def uses(self, reception: int) -> bool:
         """Whether the fix uses the reception at a place, from 0."""
         return 0 <= reception < 32 and bool(self.used >> reception & 1)
+
+    def enu_covariance(self) -> Tuple[Tuple[float, ...], ...]:
+        """The covariance in the frame east, north, up at the position, m²."""
+        return enu_covariance(self.position, self.covariance)
+
+    def horizontal_sigma_m(self) -> float:
+        """The standard deviation of the horizontal position, metres."""
+        return horizontal_sigma_m(self.position, self.covariance)
 
 
 def read(record: Buffer) -> Union[Fix, Refusal]:
@@ -62,13 +72,13 @@ def read(record: Buffer) -> Union[Fix, Refusal]:
     where it breaks a rule of document 02."""
     words, numbers, transmit_ps = _Words(), _Numbers(), ctypes.c_int64()
     answered(_read(*lent(record), words, numbers, transmit_ps))
-    answer, detail, n, used, version, kind = words
+    answer, detail, n, used, spec, kind = words
     if answer != 0:
         return Refusal(answer, detail, n)
-    x, y, z, t_m, latitude_deg, longitude_deg, height_m, *covariance, chi2, metres = numbers
+    x, y, z, t_m, lat_deg, lon_deg, height_m, *covariance, chi2, metres = numbers
     rows: Any = tuple(tuple(covariance[at : at + 3]) for at in (0, 3, 6))
-    return Fix(n, used, detail, (x, y, z), t_m, latitude_deg, longitude_deg, height_m, transmit_ps.value, rows, chi2,
-               version, Altitude(kind, metres) if kind else None)
+    return Fix(spec, (x, y, z), Geodetic(lat_deg, lon_deg, height_m), t_m, transmit_ps.value, rows, n, used,
+               Altitude(kind, metres) if kind else None, chi2, detail)
 
 
 def write(held: Union[Fix, Refusal]) -> bytes:
@@ -78,10 +88,9 @@ def write(held: Union[Fix, Refusal]) -> bytes:
         words, numbers, transmit_ps = (held.number, held.detail, held.n), _Numbers(), 0
     else:
         altitude = held.altitude or Altitude(0, 0.0)
-        words = (0, held.dof, held.n, held.used, held.version, altitude.kind)
-        covariance = [entry for row in held.covariance_m2 for entry in row]
-        numbers = _Numbers(*held.ecef_m, held.t_m, held.latitude_deg, held.longitude_deg, held.height_m, *covariance,
-                           held.chi2, altitude.metres)
+        words = (0, held.dof, held.n, held.used, held.spec, altitude.kind)
+        covariance = [entry for row in held.covariance for entry in row]
+        numbers = _Numbers(*held.ecef, held.t_m, *held.position, *covariance, held.chi2, altitude.metres)
         transmit_ps = held.transmit_ps
     if not fits(ctypes.c_uint32, *words) or not fits(ctypes.c_int64, transmit_ps):
         answered(18)

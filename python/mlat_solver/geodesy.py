@@ -3,7 +3,7 @@
 from __future__ import annotations
 
 import ctypes
-from typing import Any, Sequence, Tuple
+from typing import Any, NamedTuple, Sequence, Tuple
 
 from .library import fits, function
 
@@ -20,6 +20,17 @@ _enu_covariance = function("mlat_enu_covariance", Three, _Nine, _Nine, result=No
 _horizontal_sigma_m = function("mlat_horizontal_sigma_m", Three, _Nine, result=ctypes.c_double)
 
 Row = Tuple[float, ...]
+
+
+class Geodetic(NamedTuple):
+    """A position on WGS 84, as the source has it; any three numbers do where one is asked for."""
+
+    #: Degrees, north above 0.
+    lat_deg: float
+    #: Degrees, east above 0.
+    lon_deg: float
+    #: Metres above the ellipsoid.
+    height_m: float
 
 
 def three(numbers: Sequence[float]) -> Any:
@@ -44,25 +55,25 @@ def to_ecef(geodetic: Sequence[float]) -> Row:
     return tuple(out)
 
 
-def from_ecef(ecef_m: Sequence[float]) -> Row:
+def from_ecef(ecef: Sequence[float]) -> Geodetic:
     """ECEF metres as latitude, longitude and height."""
     out = Three()
-    _from_ecef(three(ecef_m), out)
-    return tuple(out)
+    _from_ecef(three(ecef), out)
+    return Geodetic(*out)
 
 
-def enu_basis(latitude_deg: float, longitude_deg: float) -> Tuple[Row, Row, Row]:
+def enu_basis(lat_deg: float, lon_deg: float) -> Tuple[Row, Row, Row]:
     """The unit vectors east, north and up at a place, in ECEF."""
     out = _Nine()
-    _enu_basis(latitude_deg, longitude_deg, out)
+    _enu_basis(lat_deg, lon_deg, out)
     return _rows(out)
 
 
-def to_mm(ecef_m: Sequence[float]) -> Tuple[int, int, int]:
+def to_mm(ecef: Sequence[float]) -> Tuple[int, int, int]:
     """ECEF metres as whole millimetres, as `Reception.site_mm` has them: a half away from zero, beyond an end of 64
     bits that end, 0 for a not-a-number."""
     out = _Whole()
-    _to_mm(three(ecef_m), out)
+    _to_mm(three(ecef), out)
     return tuple(out)  # type: ignore[return-value]
 
 
@@ -84,13 +95,13 @@ def chi2_limit(dof: int) -> float:
     return _chi2_limit(dof)
 
 
-def enu_covariance(position: Sequence[float], covariance_m2: Sequence[Sequence[float]]) -> Tuple[Row, Row, Row]:
+def enu_covariance(position: Sequence[float], covariance: Sequence[Sequence[float]]) -> Tuple[Row, Row, Row]:
     """A covariance in ECEF in the frame east, north, up at a latitude, longitude and height."""
     out = _Nine()
-    _enu_covariance(three(position), _nine(covariance_m2), out)
+    _enu_covariance(three(position), _nine(covariance), out)
     return _rows(out)
 
 
-def horizontal_sigma_m(position: Sequence[float], covariance_m2: Sequence[Sequence[float]]) -> float:
+def horizontal_sigma_m(position: Sequence[float], covariance: Sequence[Sequence[float]]) -> float:
     """The standard deviation of the horizontal position, metres."""
-    return _horizontal_sigma_m(three(position), _nine(covariance_m2))
+    return _horizontal_sigma_m(three(position), _nine(covariance))

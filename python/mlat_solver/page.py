@@ -6,7 +6,7 @@ from html import escape
 from typing import List, NamedTuple, Optional, Sequence, Tuple, Union
 
 from . import drawing
-from .geodesy import enu_basis, enu_covariance, from_ecef, horizontal_sigma_m
+from .geodesy import enu_basis, from_ecef
 from .problem import RECEPTION, Altitude, Files, Reception
 from .fixes import Fix, read
 from .refusal import Refusal
@@ -48,10 +48,6 @@ def of_record(title: str, record: bytes) -> Seen:
     return Seen(title, read(record), [], [])
 
 
-def _position(fix: Fix) -> Tuple[float, float, float]:
-    return fix.latitude_deg, fix.longitude_deg, fix.height_m
-
-
 def local(seen: Seen) -> List[drawing.Mark]:
     """The receivers on the plane that touches the ellipsoid below the fix, or below the middle of the sites where there
     is none."""
@@ -59,8 +55,8 @@ def local(seen: Seen) -> List[drawing.Mark]:
     if not sites:
         return []
     if isinstance(seen.answer, Fix):
-        middle: Sequence[float] = seen.answer.ecef_m
-        latitude, longitude = seen.answer.latitude_deg, seen.answer.longitude_deg
+        middle: Sequence[float] = seen.answer.ecef
+        latitude, longitude, _ = seen.answer.position
     else:
         middle = [sum(parts) / len(sites) for parts in zip(*sites)]
         latitude, longitude, _ = from_ecef(middle)
@@ -79,18 +75,18 @@ def _counted(number: int, name: str) -> str:
 
 def numbers(fix: Fix) -> List[Number]:
     """The numbers of a fix, with units."""
-    enu = enu_covariance(_position(fix), fix.covariance_m2)
+    enu = fix.enu_covariance()
     sigma = [enu[axis][axis] ** 0.5 if enu[axis][axis] >= 0 else float("nan") for axis in range(3)]
     ellipse = drawing.two_sigma(enu)
     axes = "none: the covariance is not positive definite"
     if ellipse:
         axes = f"{ellipse.major_m:.1f} m at {ellipse.bearing_deg:.0f}° from north, {ellipse.minor_m:.1f} m"
     rows = [
-        ("Latitude", f"{fix.latitude_deg:.7f}°", True),
-        ("Longitude", f"{fix.longitude_deg:.7f}°", True),
-        ("Height above the ellipsoid", f"{fix.height_m:,.1f} m", True),
-        ("ECEF", ", ".join(f"{part:,.1f}" for part in fix.ecef_m) + " m", True),
-        ("Horizontal standard deviation", f"{horizontal_sigma_m(_position(fix), fix.covariance_m2):.1f} m", True),
+        ("Latitude", f"{fix.position.lat_deg:.7f}°", True),
+        ("Longitude", f"{fix.position.lon_deg:.7f}°", True),
+        ("Height above the ellipsoid", f"{fix.position.height_m:,.1f} m", True),
+        ("ECEF", ", ".join(f"{part:,.1f}" for part in fix.ecef) + " m", True),
+        ("Horizontal standard deviation", f"{fix.horizontal_sigma_m():.1f} m", True),
         ("Standard deviations east, north, up", ", ".join(f"{part:.1f}" for part in sigma) + " m", False),
         ("Two-sigma ellipse, half axes", axes, False),
         ("Chi-square", f"{fix.chi2:.3f} at {_counted(fix.dof, 'degree')} of freedom", True),
@@ -119,7 +115,7 @@ def _numbers(fix: Fix) -> str:
 def _receiver(place: int, seen: Seen, mark: Optional[drawing.Mark]) -> str:
     state = seen.states[place] if seen.states else None
     far = drawing.metres((mark.place[0] ** 2 + mark.place[1] ** 2) ** 0.5) if mark else "not drawn"
-    key = seen.receptions[place].identity.receiver[:8].hex()
+    key = seen.receptions[place].id.receiver[:8].hex()
     told = f"<td>{escape(str(state))}</td>" if state else ""
     return (f'<tr><th scope="row">{place}</th><td>{drawing.icon(state.state if state else 0)}</td>'
             f"<td><code>{key}</code></td><td>{escape(far)}</td>{told}</tr>")
@@ -167,7 +163,7 @@ def _figures(seen: Seen, marks: Sequence[drawing.Mark]) -> str:
     parts, ellipse = [], None
     fixed = isinstance(seen.answer, Fix)
     if isinstance(seen.answer, Fix):
-        ellipse = drawing.two_sigma(enu_covariance(_position(seen.answer), seen.answer.covariance_m2))
+        ellipse = drawing.two_sigma(seen.answer.enu_covariance())
     if marks:
         parts.append(_figure("plane", drawing.plane(marks, fixed, ellipse), _legend(marks, fixed)))
     if ellipse:
@@ -210,8 +206,9 @@ def _sources(seen: Seen) -> str:
 
 def _summary(answer: Union[Fix, Refusal]) -> str:
     if isinstance(answer, Fix):
-        return (f'<p class="told">Latitude {answer.latitude_deg:.7f}°, longitude {answer.longitude_deg:.7f}°, '
-                f"{answer.height_m:,.1f} m above the ellipsoid.</p>")
+        latitude, longitude, height = answer.position
+        return (f'<p class="told">Latitude {latitude:.7f}°, longitude {longitude:.7f}°, {height:,.1f} m above the '
+                "ellipsoid.</p>")
     words = str(answer)
     return f'<p class="told refusal">{escape(words[0].upper() + words[1:])}.</p>'
 

@@ -53,13 +53,13 @@ class Reception:
     """One reception of the transmission."""
 
     #: Above that of the reception before: sort by it, with the rows and columns of the clock covariance.
-    identity: ObservationId
+    id: ObservationId
     #: When it arrived, ps, 0 to 10^13: for the screen.
     time_ps: int
     #: The receiver's site, ECEF millimetres, each within ±10^10.
     site_mm: Tuple[int, int, int]
     #: Arrival in metres of light, 0 to 3·10^9: for the fit.
-    z_m: float
+    z: float
     #: Variance of its own timing, m², 10^-6 to 10^12.
     noise_m2: float
     #: Zero: any other value is refused.
@@ -67,22 +67,22 @@ class Reception:
 
     def to_bytes(self) -> bytes:
         """Its 132 bytes of receptions.bin. ValueError for a key or a hash that has not 32 bytes."""
-        known = self.identity
+        known = self.id
         if len(known.receiver) != 32 or len(known.message) != 32:
             raise ValueError("receiver and message have 32 bytes each")
         if len(self.site_mm) != 3:
             raise ValueError("site_mm has three numbers")
-        names = "receiver epoch timestamp message time_ps site_mm site_mm site_mm z_m noise_m2 filler"
+        names = "receiver epoch timestamp message time_ps site_mm site_mm site_mm z noise_m2 filler"
         return _packed(RECEPTION, names, known.receiver, known.epoch, known.timestamp, known.message, self.time_ps,
-                       *self.site_mm, self.z_m, self.noise_m2, self.filler)
+                       *self.site_mm, self.z, self.noise_m2, self.filler)
 
     @classmethod
     def from_bytes(cls, reception: Buffer) -> Reception:
         """That of 132 bytes of receptions.bin; a ValueError for another length."""
         if memoryview(reception).nbytes != RECEPTION.size:
             raise ValueError(f"a reception has 132 bytes, not {memoryview(reception).nbytes}")
-        receiver, epoch, timestamp, message, time_ps, x, y, z, z_m, noise_m2, filler = RECEPTION.unpack(reception)
-        return cls(ObservationId(receiver, epoch, timestamp, message), time_ps, (x, y, z), z_m, noise_m2, filler)
+        receiver, epoch, timestamp, message, time_ps, *site_mm, z, noise_m2, filler = RECEPTION.unpack(reception)
+        return cls(ObservationId(receiver, epoch, timestamp, message), time_ps, tuple(site_mm), z, noise_m2, filler)
 
 
 @dataclass(frozen=True)

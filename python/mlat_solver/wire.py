@@ -4,8 +4,8 @@ from __future__ import annotations
 
 import ctypes
 from dataclasses import dataclass
-from typing import Tuple
 
+from .geodesy import Geodetic
 from .library import LENT, function, lent
 from .problem import Buffer
 from .refusal import answered
@@ -26,7 +26,7 @@ class Wire:
     #: Millimetres above the ellipsoid, -1,500,000 to 25,000,000.
     height_mm: int
 
-    def position(self) -> Tuple[float, float, float]:
+    def position(self) -> Geodetic:
         """Latitude and longitude in degrees and height in metres; written again the same numbers. Raises `Refusal` 19
         beyond the limits."""
         numbers = (self.latitude_e7, self.longitude_e7, self.height_mm)
@@ -34,7 +34,7 @@ class Wire:
             answered(19)
         position = _Position()
         answered(_from_wire(_Wire(*numbers), position))
-        return tuple(position)  # type: ignore[return-value]
+        return Geodetic(*position)
 
 
 def to_wire(record: Buffer) -> Wire:

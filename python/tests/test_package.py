@@ -23,7 +23,8 @@ from html.parser import HTMLParser
 
 import recordings
 from mlat_solver import Altitude, Files, Fix, ObservationId, Problem, Reception, Records, Refusal, open_records, records
-from mlat_solver import commands, drawing, page, solve, solve_many, solve_record, to_ecef, why, write
+from mlat_solver import commands, drawing, page, solve, solve_record, why, write
+from mlat_solver import solve_many, to_ecef
 from mlat_solver.library import LENT, library
 
 PROGRAMS = recordings.REPOSITORY / "target" / "bin"
@@ -124,14 +125,14 @@ class Buffers(unittest.TestCase):
         files = example("outlier")
         clock = numpy.frombuffer(files.clock).reshape(6, 6)
         fields = [("receiver", "V32"), ("epoch", "<u4"), ("timestamp", "<u8"), ("message", "V32"), ("time_ps", "<i8"),
-                  ("site_mm", "<i8", 3), ("z_m", "<f8"), ("noise_m2", "<f8"), ("filler", "<u8")]
+                  ("site_mm", "<i8", 3), ("z", "<f8"), ("noise_m2", "<f8"), ("filler", "<u8")]
         named = numpy.frombuffer(files.receptions, dtype=fields)
         for receptions in (numpy.frombuffer(files.receptions, dtype="V132"), named, named.copy()):
             self.assertEqual(solve_record(self.outlier(receptions, clock)), solve_record(files))
             self.assertEqual(solve_record(self.outlier(receptions, clock.copy())), solve_record(files))
         keys = [ObservationId(bytes(one["receiver"]), one["epoch"], one["timestamp"], bytes(one["message"]))
                 for one in named]
-        listed = [Reception(key, one["time_ps"], tuple(one["site_mm"]), one["z_m"], one["noise_m2"])
+        listed = [Reception(key, one["time_ps"], tuple(one["site_mm"]), one["z"], one["noise_m2"])
                   for key, one in zip(keys, named)]
         self.assertEqual(solve_record(self.outlier(listed, list(clock.ravel()))), solve_record(files))
         for wrong in (clock.astype("f4"), clock.astype(">f8"), numpy.asfortranarray(clock), clock[::2]):
@@ -223,7 +224,7 @@ class Buffers(unittest.TestCase):
     def test_numbers_that_no_record_holds(self):
         fix = next(records(recordings.EXAMPLES / "records.bin"))
         self.assertEqual(write(fix), Records((recordings.EXAMPLES / "records.bin").read_bytes())[0])
-        wrong = [{name: getattr(fix, name) + add} for name in ("n", "used", "dof", "version") for add in (1 << 32, -99)]
+        wrong = [{name: getattr(fix, name) + add} for name in ("n", "used", "dof", "spec") for add in (1 << 32, -99)]
         wrong += [{"transmit_ps": fix.transmit_ps + (1 << 64)}, {"altitude": Altitude(1 + (1 << 32), 0.0)}]
         for held in [dataclasses.replace(fix, **fields) for fields in wrong] + [Refusal(8 + (1 << 32)), Refusal(-1)]:
             with self.assertRaises(Refusal) as raised:
@@ -281,9 +282,9 @@ class Commands(unittest.TestCase):
         listed = [json.loads(line) for line in run("records", file, "--json")[1].splitlines()]
         self.assertEqual([held["answer"] for held in listed], [0, 0, 8, 0])
         first = next(records(file))
-        self.assertEqual(listed[0]["latitude_deg"], first.latitude_deg)
+        self.assertEqual(listed[0]["latitude_deg"], first.position.lat_deg)
         self.assertEqual((listed[0]["version"], listed[0]["altitude_m"]), (8, first.altitude.metres))
-        covariance = [one for row in first.covariance_m2 for one in row]
+        covariance = [one for row in first.covariance for one in row]
         self.assertEqual([listed[0][f"c{at // 3}{at % 3}"] for at in range(9)], covariance)
         self.assertEqual(run("records", recordings.EXAMPLES / "fix" / "clock.bin")[:2], (2, ""))
 
@@ -308,7 +309,7 @@ class Commands(unittest.TestCase):
             path = pathlib.Path(folder, "refused.bin")
             path.write_bytes((recordings.EXAMPLES / "ambiguous" / "record.bin").read_bytes())
             self.assertEqual(run("near", path, 1, 2, 3, 4)[:2], (0, "nearest: none, the file has no fix\n"))
-            far = dataclasses.replace(next(records(file)), ecef_m=(1e200, 0.0, 0.0))
+            far = dataclasses.replace(next(records(file)), ecef=(1e200, 0.0, 0.0))
             path.write_bytes(write(far))
             self.assertEqual(run("near", path, 1, 2, 3, 4)[:2], (0, "nearest: place 0, over 10^16 m away\n"))
 
@@ -399,14 +400,14 @@ class Page(unittest.TestCase):
         the sines and cosines of its place."""
         fix = solve(example("screened"))
         shown = dict((name, value) for name, value, _ in page.numbers(fix))["Two-sigma ellipse, half axes"]
-        phi, lam = math.radians(fix.latitude_deg), math.radians(fix.longitude_deg)
+        phi, lam = math.radians(fix.position.lat_deg), math.radians(fix.position.lon_deg)
         east = (-math.sin(lam), math.cos(lam), 0.0)
         north = (-math.sin(phi) * math.cos(lam), -math.sin(phi) * math.sin(lam), math.cos(phi))
         reach = {}
         for degree in range(180):
             turn = math.radians(degree)
             way = [math.sin(turn) * e + math.cos(turn) * n for e, n in zip(east, north)]
-            both = sum(a * b * fix.covariance_m2[i][j] for i, a in enumerate(way) for j, b in enumerate(way))
+            both = sum(a * b * fix.covariance[i][j] for i, a in enumerate(way) for j, b in enumerate(way))
             reach[degree] = 2 * math.sqrt(both)
         far = max(reach, key=reach.get)
         self.assertEqual(shown, f"{reach[far]:.1f} m at {far}° from north, {min(reach.values()):.1f} m")

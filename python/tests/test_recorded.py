@@ -16,9 +16,9 @@ def held(answer):
     if isinstance(answer, Refusal):
         return struct.pack("<6I18dq", answer.number, answer.detail, answer.n, 0, 0, 0, *[0.0] * 18, 0)
     altitude = answer.altitude or Altitude(0, 0.0)
-    covariance = [entry for row in answer.covariance_m2 for entry in row]
-    return struct.pack("<6I18dq", 0, answer.dof, answer.n, answer.used, answer.version, altitude.kind, *answer.ecef_m,
-                       answer.t_m, answer.latitude_deg, answer.longitude_deg, answer.height_m, *covariance, answer.chi2,
+    covariance = [entry for row in answer.covariance for entry in row]
+    return struct.pack("<6I18dq", 0, answer.dof, answer.n, answer.used, answer.spec, altitude.kind, *answer.ecef,
+                       answer.t_m, *answer.position, *covariance, answer.chi2,
                        altitude.metres, answer.transmit_ps)
 
 

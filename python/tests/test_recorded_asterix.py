@@ -76,8 +76,8 @@ class Asterix(unittest.TestCase):
             self.assertEqual((items, items), (to_asterix(held), to_asterix(to_wire(record))))
             steps = read_asterix(items)
             degrees = 180 / (1 << 25)
-            self.assertLessEqual(abs(steps.latitude * degrees - held.latitude_deg), 0.51 * degrees)
-            self.assertLessEqual(abs(steps.height * 1.905 - held.height_m), 0.96)
+            self.assertLessEqual(abs(steps.latitude * degrees - held.position.lat_deg), 0.51 * degrees)
+            self.assertLessEqual(abs(steps.height * 1.905 - held.position.height_m), 0.96)
             count += 1
         self.assertEqual(count, 471)
 

@@ -16,11 +16,6 @@ def fixes():
     return [held for held in (read(record) for _, record in recordings.solved()) if isinstance(held, Fix)]
 
 
-def position_of(fix):
-    """Latitude, longitude and height."""
-    return fix.latitude_deg, fix.longitude_deg, fix.height_m
-
-
 def wilson_hilferty(dof):
     """The limit by its formula, in the order of solve.rs."""
     a = 2.0 / (9.0 * dof)
@@ -34,12 +29,12 @@ class Geodesy(unittest.TestCase):
     def test_recorded_fixes(self):
         told, listed = 0, fixes()
         for k, fix in enumerate(listed):
-            self.assertEqual(from_ecef(fix.ecef_m), position_of(fix))
-            position = list(position_of(fix))
+            self.assertEqual(from_ecef(fix.ecef), fix.position)
+            position = list(fix.position)
             position[k % 3] = math.nextafter(position[k % 3], math.inf)
-            told += from_ecef(fix.ecef_m) != tuple(position)
+            told += from_ecef(fix.ecef) != tuple(position)
             # six rounds come 'well under a millimetre' near (geo.rs)
-            self.assertLess(math.dist(to_ecef(position_of(fix)), fix.ecef_m), 1e-4)
+            self.assertLess(math.dist(to_ecef(fix.position), fix.ecef), 1e-4)
         self.assertEqual((told, len(listed)), (471, 471))
 
     def test_known(self):
@@ -54,8 +49,8 @@ class Geodesy(unittest.TestCase):
         self.assertEqual(to_mm((math.inf, -math.inf, 0.0)), ((1 << 63) - 1, -1 << 63, 0))
         self.assertEqual(from_mm((1, -1001, 0)), (0.001, -1.001, 0.0))
         for fix in fixes()[::10]:
-            mm = to_mm(fix.ecef_m)
-            self.assertTrue(all(abs(one - 1000 * metres) <= 0.501 for one, metres in zip(mm, fix.ecef_m)))
+            mm = to_mm(fix.ecef)
+            self.assertTrue(all(abs(one - 1000 * metres) <= 0.501 for one, metres in zip(mm, fix.ecef)))
             self.assertEqual((to_mm(from_mm(mm)), from_mm(mm)), (mm, tuple(one / 1000 for one in mm)))
         with self.assertRaises(OverflowError):
             from_mm((0, 1 << 63, 0))
@@ -90,11 +85,13 @@ class Claims(unittest.TestCase):
 
     def test_recorded_fixes(self):
         for fix in fixes():
-            enu = enu_covariance(position_of(fix), fix.covariance_m2)
-            trace = sum(fix.covariance_m2[at][at] for at in range(3))
+            enu = enu_covariance(fix.position, fix.covariance)
+            self.assertEqual((fix.enu_covariance(), fix.horizontal_sigma_m()),
+                             (enu, horizontal_sigma_m(fix.position, fix.covariance)))
+            trace = sum(fix.covariance[at][at] for at in range(3))
             # a rotation keeps the sum of the variances
             self.assertAlmostEqual(sum(enu[at][at] for at in range(3)) / trace, 1.0, delta=1e-9)
-            sigma = horizontal_sigma_m(position_of(fix), fix.covariance_m2)
+            sigma = horizontal_sigma_m(fix.position, fix.covariance)
             self.assertAlmostEqual(sigma, math.sqrt((enu[0][0] + enu[1][1]) / 2), delta=1e-9 * sigma)
 
 

@@ -65,7 +65,7 @@ class Near(unittest.TestCase):
         opened = open_records(FILE)
         held = [(place, read(record)) for place, record in enumerate(opened)]
         point = to_ecef((-38.0, -83.0, 10_000.0))
-        away = {place: math.dist(fix.ecef_m, point) for place, fix in held if isinstance(fix, Fix)}
+        away = {place: math.dist(fix.ecef, point) for place, fix in held if isinstance(fix, Fix)}
         self.assertGreater(len(held), len(away))
         self.assertEqual(nearest(opened, point), min(away, key=away.get))
         for radius in (0.0, 1e6, 3e6, 1e8):
