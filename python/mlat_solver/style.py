@@ -48,6 +48,11 @@ th, td { padding: .1rem .5rem .1rem 0; }
 .numbers td:nth-child(3)::before { content: "from: "; }
 .receivers th::before { content: "place "; }
 }
+@media print {
+body { font-size: 12px; }
+main { padding: 0; }
+.figures:not(.one) { columns: 2; column-gap: 1rem; }
+}
 @media screen and (prefers-color-scheme: dark) {
 body { background: #16181b; color: #ececec; }
 figure { border-color: #4a4d52; }
