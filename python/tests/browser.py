@@ -5,10 +5,16 @@ import json
 import os
 import shutil
 import subprocess
+import sys
 import tempfile
 
 #: The first of these that is on the PATH.
 NAMES = ("chromium", "chromium-browser", "google-chrome")
+#: DevTools reads file descriptor 3 and writes 4, so the pipes are moved there before the browser is started.
+START = """import fcntl, os, sys
+to_read, to_write = (fcntl.fcntl(int(word), fcntl.F_DUPFD_CLOEXEC, 10) for word in sys.argv[1:3])
+os.dup2(to_read, 3), os.dup2(to_write, 4)
+os.execv(sys.argv[3], sys.argv[3:])"""
 
 
 def found():
@@ -22,8 +28,7 @@ class Browser:
     def __init__(self):
         self.folder = tempfile.mkdtemp()
         (to_read, self.to), (self.by, to_write) = os.pipe(), os.pipe()
-        # DevTools reads file descriptor 3 and writes 4
-        words = ["sh", "-c", f'exec "$@" 3<&{to_read} 4>&{to_write}', "sh", found(), "--headless=new", "--no-sandbox",
+        words = [sys.executable, "-c", START, str(to_read), str(to_write), found(), "--headless=new", "--no-sandbox",
                  "--disable-gpu", "--disable-dev-shm-usage", "--hide-scrollbars", "--remote-debugging-pipe",
                  "--disable-background-networking", "--no-first-run", f"--user-data-dir={self.folder}", "about:blank"]
         self.process = subprocess.Popen(words, pass_fds=(to_read, to_write), stdout=subprocess.DEVNULL,
