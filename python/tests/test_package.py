@@ -24,7 +24,7 @@ from html.parser import HTMLParser
 import recordings
 from mlat_solver import Altitude, Files, Fix, ObservationId, Problem, Reception, Records, Refusal, open_records, records
 from mlat_solver import commands, drawing, page, solve, solve_record, why, write
-from mlat_solver import solve_many, to_ecef
+from mlat_solver import horizontal_sigma_m, solve_many, to_ecef
 from mlat_solver.library import LENT, library
 
 PROGRAMS = recordings.REPOSITORY / "target" / "bin"
@@ -371,6 +371,23 @@ class Page(unittest.TestCase):
             self.assertIn(part, out)
         for kind in ("used", "leftout", "removed"):
             self.assertIn(f'class="{kind}"', out)
+
+    def test_what_is_marked_as_proved(self):
+        """What a call gives as it stands; what the page works out is marked as its own."""
+        fix = solve(example("screened"))
+        shown = page.numbers(fix)
+        own = [name for name, _, proved in shown if not proved]
+        self.assertEqual(own, ["Standard deviations east, north, up", "Two-sigma ellipse, half axes",
+                               "Receptions used"])
+        given = {"Latitude": f"{fix.position.lat_deg:.7f}°", "Longitude": f"{fix.position.lon_deg:.7f}°",
+                 "Height above the ellipsoid": f"{fix.position.height_m:,.1f} m",
+                 "ECEF": "{:,.1f}, {:,.1f}, {:,.1f} m".format(*fix.ecef),
+                 "Horizontal standard deviation": f"{horizontal_sigma_m(fix.position, fix.covariance):.1f} m",
+                 "Chi-square": f"{fix.chi2:.3f} at {fix.dof} degree of freedom",
+                 "Time of transmission": f"{fix.transmit_ps:,} ps",
+                 "T, after the reference": f"{fix.t_m:,.3f} m of light", "Receptions considered": str(fix.n),
+                 "Altitude as given": f"{fix.altitude.metres:,.1f} m, barometric"}
+        self.assertEqual({name: value for name, value, proved in shown if proved}, given)
 
     def test_refusal(self):
         out = self.made(recordings.EXAMPLES / "ambiguous")
