@@ -20,7 +20,7 @@ use Rattle.inputs.proofs.Alike.{same-check, same-problem}
 use Rattle.rounds.specs.Solve.{solveProblem}
 use Rattle.record.specs.Record.{stored}
 use Rattle.entry.specs.declared.Reply.{Reply}
-use Rattle.entry.specs.Reply.{answered, replied, reply, answer, output, Demanded}
+use Rattle.entry.specs.Reply.{answered, replied, reply, Demanded, Promise}
 
 -- ---- how many are unpacked: all of up to 32, none of more
 pub few-all : (n k : ℕ) → k ≡ cond (leb n 32) n 0 → n ≤ 32 → k ≡ n
@@ -34,10 +34,6 @@ few-within n k e = go (leb n 32) (leb-true n 32) e
     go false h q = (omega (arith, q), omega (arith, q))
 
 -- ---- the reply
--- what `solve_fields` promises: answer, output, demand
-abbrev pub Solved : Inputs → List ℕ → ℕ → List ℕ → Type 0
-Solved I out r after = (r ≡ answer I out) × ((after ≡ output I out) × (checkInputs I ≡ Passed → 176 ≤ length out → Demanded (problemOf I) after))
-
 module _ (f : Fields) (n : ℕ) (at : ℕ → Reception) (filled : n ≤ 32 → f ≡ fieldsOf at n) (whole : Bool) (g : Given) (clock altitude reference : List ℕ) where
   abbrev I : Inputs
   I = inputsOf whole n (receptionIn f) g clock altitude reference
@@ -59,11 +55,9 @@ module _ (f : Fields) (n : ℕ) (at : ℕ → Reception) (filled : n ≤ 32 → 
       go (Refused fault) e = ap (λ (c : Check). replied c I) (check ∙ e) ∙ sym (ap (λ (c : Check). replied c J) e)
       go Passed e = ap (λ (c : Check). replied c I) (check ∙ e) ∙ ap (λ (p : Problem). answered n (p .shown) (solveProblem p)) (problem e) ∙ sym (ap (λ (c : Check). replied c J) e)
 
-  pub solved : (out after : List ℕ) (r : ℕ) → Solved I out r after → Solved J out r after
-  solved out after r s = (
-    s .0 ∙ ap (λ (a : Reply). cond (ltb (length out) 176) 14 (a .number)) same-reply,
-    (
-      s .1 .0 ∙ ap (λ (a : Reply). cond (ltb (length out) 176) out (stored out (a .bytes))) same-reply,
-      λ e l. subst (λ (p : Problem). Demanded p after) (problem e) (s .1 .1 (check ∙ e) l),
-    ),
-  )
+  pub solved : (out after : List ℕ) (r : ℕ) → Promise I out r after → Promise J out r after
+  solved out after r s = record {
+    answer = s .answer ∙ ap (λ (a : Reply). cond (ltb (length out) 176) 14 (a .number)) same-reply;
+    output = s .output ∙ ap (λ (a : Reply). cond (ltb (length out) 176) out (stored out (a .bytes))) same-reply;
+    demand = λ e l. subst (λ (p : Problem). Demanded p after) (problem e) (s .demand (check ∙ e) l);
+  }

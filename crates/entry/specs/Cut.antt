@@ -1,4 +1,5 @@
--- What the program `solve` may leave unread: a file that is too long gets the reply of what it is cut to. A statement only: proofs/Cut.antt proves it.
+-- What the program `solve` may leave unread: a file that is too long gets the reply of what it is cut to. A statement
+-- only: proofs/Cut.antt proves it.
 use Prim.Native.Nat.{ℕ, _+_, _*_, _-_, _/_, _%_, _<_, min}
 use mathlib.Core.Path.{_≡_}
 use mathlib.Core.Bool.{Bool, cond}
@@ -25,8 +26,8 @@ filed rs clock altitude reference = record {
 abbrev pub oneTooMany : ℕ
 oneTooMany = 33 * receptionBytes
 
--- How many of the n bytes that were read, of room for so many, stand for the file: all of them, but one fewer where they
--- fill the room and what follows is no whole number of receptions.
+-- How many of the n bytes that were read, of room for so many, stand for the file: all of them, but one fewer where
+-- they fill the room and what follows is no whole number of receptions.
 abbrev pub taken : ℕ → Bool → ℕ
 taken n whole = cond (ltb n oneTooMany) n (cond whole n (n - 1))
 
@@ -42,7 +43,8 @@ pub record CutRepliesAlike : Type 0 where
   -- the bits are those that the solve reads
   pub bits :
       (clock altitude reference : Bool)
-      → given (presentBits clock altitude reference) ≡ record { clock = clock; altitude = altitude; reference = reference }
+      → given (presentBits clock altitude reference)
+      ≡ record { clock = clock; altitude = altitude; reference = reference }
   -- what is taken stands for every receptions.bin, torn, whole or too long
   pub receptions :
       (rs : List ℕ) (clock altitude reference : Option (List ℕ))

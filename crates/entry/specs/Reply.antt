@@ -1,5 +1,6 @@
--- What a solve answers to its four inputs, and the bytes that it leaves in the lent output. Definitions and statements only.
-use Prim.Native.Nat.{ℕ, _/_, _%_}
+-- What a solve answers to its four inputs, the bytes that it leaves in the lent output, and what it promises of both.
+-- Definitions and statements only.
+use Prim.Native.Nat.{ℕ, _/_, _%_, _≤_}
 use mathlib.Core.Path.{_≡_}
 use mathlib.Core.Bool.{true, cond}
 use mathlib.Core.List.{List}
@@ -15,7 +16,7 @@ use Rattle.inputs.specs.declared.Given.{Given}
 use Rattle.inputs.specs.declared.Fault.{Fault}
 use Rattle.inputs.specs.declared.Check.{Check}
 use Rattle.inputs.specs.declared.Check.the-variants.{Passed, Refused}
-use Rattle.inputs.specs.Faults.{numberOf, detailOf}
+use Rattle.inputs.specs.Faults.{passed, numberOf, detailOf}
 use Rattle.inputs.specs.Inputs.{Inputs, inputsOf, checkInputs, problemOf}
 use Rattle.rounds.specs.Setting.{Answer, fix, refused, noFixedPoint}
 use Rattle.rounds.specs.Solve.{number, detail, solveProblem}
@@ -28,18 +29,21 @@ use Rattle.entry.specs.declared.Reply.{Reply}
 
 -- ---- the inputs, as a caller lends them
 
--- of `present` bit 0 says that there is a clock covariance, bit 1 an altitude and bit 2 a reference. Further bits mean nothing.
+-- of `present` bit 0 says that there is a clock covariance, bit 1 an altitude and bit 2 a reference. Further bits mean
+-- nothing.
 abbrev pub given : ℕ → Given
 given present = record { clock = has present 0; altitude = has present 1; reference = has present 2 }
 
 -- the bytes of receptions.bin, clock.bin, altitude.bin and reference.bin. Absent receptions are empty ones.
 abbrev pub lent : List ℕ → List ℕ → List ℕ → List ℕ → ℕ → Inputs
 lent receptions clock altitude reference present =
-    inputsOf (eqb (length receptions % receptionBytes) 0) (length receptions / receptionBytes) (receptionAt receptions) (given present) clock altitude reference
+    inputsOf (eqb (length receptions % receptionBytes) 0) (length receptions / receptionBytes) (receptionAt receptions)
+    (given present) clock altitude reference
 
 -- "the caller's own list of reception records" in place of receptions.bin
 abbrev pub listed : List Reception → List ℕ → List ℕ → List ℕ → ℕ → Inputs
-listed receptions clock altitude reference present = inputsOf true (length receptions) (listedAt receptions) (given present) clock altitude reference
+listed receptions clock altitude reference present =
+    inputsOf true (length receptions) (listedAt receptions) (given present) clock altitude reference
 
 -- ---- the reply: document 01's answer number, and the 176 bytes
 
@@ -72,11 +76,18 @@ answer I out = cond (ltb (length out) 176) shortOutput (reply I .number)
 abbrev pub output : Inputs → List ℕ → List ℕ
 output I out = cond (ltb (length out) 176) out (stored out (reply I .bytes))
 
--- Demand 3, of the bytes that are written: they are the record of an answer that meets it, and no other answer meets its claim.
--- Of a fix, each value that `Found` speaks of stands at its place among them.
+-- Demand 3, of the bytes that are written: they are the record of an answer that meets it, and no other answer meets
+-- its claim. Of a fix, each value that `Found` speaks of stands at its place among them.
 pub record Demanded (P : Problem) (out : List ℕ) : Type 0 where
   pub answer : Answer Fix
   pub demand : Demand P answer
   pub written : take 176 out ≡ recordOf (P .n) (P .shown) answer
   pub shows : (x : Fix) → answer ≡ fix x → Stands (take 176 out) (P .n) (P .shown) x
   pub alone : (other : Answer Fix) → Claim (rounds P) (remaining P) other → other ≡ answer
+
+-- What a solve of the inputs I promises a caller who lends `out`: of the number r that it gives, and of `after`, which
+-- `out` then holds. It is the promise of `mlat_solve`, for every input.
+pub record Promise (I : Inputs) (out : List ℕ) (r : ℕ) (after : List ℕ) : Type 0 where
+  pub answer : r ≡ answer I out
+  pub output : after ≡ output I out
+  pub demand : checkInputs I ≡ passed → 176 ≤ length out → Demanded (problemOf I) after

@@ -3,10 +3,9 @@ ghost use mathlib.Core.Path.{_≡_};
 ghost use mathlib.Core.Bool.{cond};
 ghost use Prim.Native.Nat.{_≤_, _<_};
 ghost use lib.Dec.{leb};
-ghost use lib.ListN.{length};
 ghost use Rattle.receptions.specs.Receptions.{fieldsOf, receptionIn};
-ghost use Rattle.inputs.specs.Faults.{passed, numberOf};
-ghost use Rattle.inputs.specs.Inputs.{inputsOf, checkInputs, problemOf};
+ghost use Rattle.inputs.specs.Faults.{numberOf};
+ghost use Rattle.inputs.specs.Inputs.{inputsOf};
 ghost use Rattle.rounds.specs.Setting as setting;
 ghost use Rattle.rounds.specs.Solve.{asAnswer, refusalNumber, refusalDetail};
 ghost use Rattle.record.specs.declared.content.Fix as content;
@@ -119,7 +118,8 @@ fn reply_to(
     present: u32,
 ) -> Reply
     requires { ⌜ (n ≤ 32 → f ≡ fieldsOf (receptionIn f) n) ⌝ }
-    ensures { λ r. ⌜ r ≡ reply.reply (inputsOf whole n (receptionIn f) (reply.given present) (now (clock .entry)) (now (altitude .entry)) (now (reference .entry))) ⌝ }
+    ensures { λ r. ⌜ r ≡ reply.reply (inputsOf whole n (receptionIn f) (reply.given present) (now (clock .entry))
+        (now (altitude .entry)) (now (reference .entry))) ⌝ }
 {
     let g = given(present);
     let found = inputs::check_inputs(f, whole, n, g, clock, altitude, reference);
@@ -146,9 +146,8 @@ pub fn solve_fields(
     out: &mut [u8],
 ) -> u32
     requires { ⌜ (n ≤ 32 → f ≡ fieldsOf (receptionIn f) n) ⌝ }
-    ensures answer { λ r. ⌜ r ≡ reply.answer (inputsOf whole n (receptionIn f) (reply.given present) (now (clock .entry)) (now (altitude .entry)) (now (reference .entry))) (now (out .entry)) ⌝ }
-    ensures output { λ _. ⌜ now (out .exit) ≡ reply.output (inputsOf whole n (receptionIn f) (reply.given present) (now (clock .entry)) (now (altitude .entry)) (now (reference .entry))) (now (out .entry)) ⌝ }
-    ensures demand { λ _. ⌜ (checkInputs (inputsOf whole n (receptionIn f) (reply.given present) (now (clock .entry)) (now (altitude .entry)) (now (reference .entry))) ≡ passed → 176 ≤ length (now (out .entry)) → reply.Demanded (problemOf (inputsOf whole n (receptionIn f) (reply.given present) (now (clock .entry)) (now (altitude .entry)) (now (reference .entry)))) (now (out .exit))) ⌝ }
+    ensures { λ r. ⌜ reply.Promise (inputsOf whole n (receptionIn f) (reply.given present) (now (clock .entry))
+        (now (altitude .entry)) (now (reference .entry))) (now (out .entry)) r (now (out .exit)) ⌝ }
 {
     if out.len() < RECORD {
         return refusals::SHORT_OUTPUT;
@@ -179,9 +178,8 @@ pub fn solve(
     present: u32,
     out: &mut [u8],
 ) -> u32
-    ensures answer { λ r. ⌜ r ≡ reply.answer (reply.lent (now (receptions .entry)) (now (clock .entry)) (now (altitude .entry)) (now (reference .entry)) present) (now (out .entry)) ⌝ }
-    ensures output { λ _. ⌜ now (out .exit) ≡ reply.output (reply.lent (now (receptions .entry)) (now (clock .entry)) (now (altitude .entry)) (now (reference .entry)) present) (now (out .entry)) ⌝ }
-    ensures demand { λ _. ⌜ (checkInputs (reply.lent (now (receptions .entry)) (now (clock .entry)) (now (altitude .entry)) (now (reference .entry)) present) ≡ passed → 176 ≤ length (now (out .entry)) → reply.Demanded (problemOf (reply.lent (now (receptions .entry)) (now (clock .entry)) (now (altitude .entry)) (now (reference .entry)) present)) (now (out .exit))) ⌝ }
+    ensures { λ r. ⌜ reply.Promise (reply.lent (now (receptions .entry)) (now (clock .entry)) (now (altitude .entry))
+        (now (reference .entry)) present) (now (out .entry)) r (now (out .exit)) ⌝ }
 {
     let n = receptions.len() / receptions::RECEPTION_BYTES;
     let whole = receptions.len() % receptions::RECEPTION_BYTES == 0;

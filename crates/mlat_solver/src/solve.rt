@@ -1,9 +1,4 @@
 // The solve, for callers in C.
-ghost use mathlib.Core.Path.{_≡_};
-ghost use Prim.Native.Nat.{_≤_};
-ghost use lib.ListN.{length};
-ghost use Rattle.inputs.specs.Faults.{passed};
-ghost use Rattle.inputs.specs.Inputs.{checkInputs, problemOf};
 ghost use Rattle.entry.specs.Reply as reply;
 use receptions::Reception;
 
@@ -19,9 +14,8 @@ pub extern "C" fn mlat_solve(
     present: u32,
     out: &mut [u8],
 ) -> u32
-    ensures answer { λ r. ⌜ r ≡ reply.answer (reply.lent (now (receptions .entry)) (now (clock .entry)) (now (altitude .entry)) (now (reference .entry)) present) (now (out .entry)) ⌝ }
-    ensures output { λ _. ⌜ now (out .exit) ≡ reply.output (reply.lent (now (receptions .entry)) (now (clock .entry)) (now (altitude .entry)) (now (reference .entry)) present) (now (out .entry)) ⌝ }
-    ensures demand { λ _. ⌜ (checkInputs (reply.lent (now (receptions .entry)) (now (clock .entry)) (now (altitude .entry)) (now (reference .entry)) present) ≡ passed → 176 ≤ length (now (out .entry)) → reply.Demanded (problemOf (reply.lent (now (receptions .entry)) (now (clock .entry)) (now (altitude .entry)) (now (reference .entry)) present)) (now (out .exit))) ⌝ }
+    ensures { λ r. ⌜ reply.Promise (reply.lent (now (receptions .entry)) (now (clock .entry)) (now (altitude .entry))
+        (now (reference .entry)) present) (now (out .entry)) r (now (out .exit)) ⌝ }
 {
     entry::solve(receptions, clock, altitude, reference, present, out)
 }
@@ -36,9 +30,8 @@ pub extern "C" fn mlat_solve_receptions(
     present: u32,
     out: &mut [u8],
 ) -> u32
-    ensures answer { λ r. ⌜ r ≡ reply.answer (reply.listed (now (receptions .entry)) (now (clock .entry)) (now (altitude .entry)) (now (reference .entry)) present) (now (out .entry)) ⌝ }
-    ensures output { λ _. ⌜ now (out .exit) ≡ reply.output (reply.listed (now (receptions .entry)) (now (clock .entry)) (now (altitude .entry)) (now (reference .entry)) present) (now (out .entry)) ⌝ }
-    ensures demand { λ _. ⌜ (checkInputs (reply.listed (now (receptions .entry)) (now (clock .entry)) (now (altitude .entry)) (now (reference .entry)) present) ≡ passed → 176 ≤ length (now (out .entry)) → reply.Demanded (problemOf (reply.listed (now (receptions .entry)) (now (clock .entry)) (now (altitude .entry)) (now (reference .entry)) present)) (now (out .exit))) ⌝ }
+    ensures { λ r. ⌜ reply.Promise (reply.listed (now (receptions .entry)) (now (clock .entry)) (now (altitude .entry))
+        (now (reference .entry)) present) (now (out .entry)) r (now (out .exit)) ⌝ }
 {
     let n = receptions.len();
     let f = receptions::of_list(receptions, entry::few(n));

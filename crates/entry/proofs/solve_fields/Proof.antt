@@ -17,7 +17,9 @@ abbrev lent : tie.Start → Inputs
 lent s = inputsOf (s .args .whole) (s .args .n) (receptionIn (s .args .f)) (given (s .args .present)) (s .args .clock .now) (s .args .altitude .now) (s .args .reference .now)
 
 returns : tie.Need-returns
-returns c = (rw (lt-ltb (length (c .before .before .before .before .before .args .out .now)) 176 (c .if1 .taken)), (rw (lt-ltb (length (c .before .before .before .before .before .args .out .now)) 176 (c .if1 .taken)), λ p l. absurd (omega arith)))
+returns c =
+    let short = lt-ltb (length (c .before .before .before .before .before .args .out .now)) 176 (c .if1 .taken) in
+    record { answer = rw short; output = rw short; demand = λ p l. absurd (omega arith) }
 
 reply-to-requires : tie.Need-reply-to-requires
 reply-to-requires c κs = search needs
@@ -30,14 +32,16 @@ same-length c = search needs
 
 returns-2 : tie.Need-returns-2
 returns-2 c =
-    let whole : length (c .before .before .before .before .before .reply-to .result .bytes) ≡ 176 = search needs in
-    let s = c .before .before .before .before .before .before .before .before .before .before .before in (
-      rw (le-ltb (length (s .args .out .now)) 176 (c .before .before .before .before .before .before .if1 .left)) (ap (λ (r : Reply). r .number) (c .before .before .before .before .before .reply-to .ensures)),
-      (
-        rw (le-ltb (length (s .args .out .now)) 176 (c .before .before .before .before .before .before .if1 .left)) (c .before .before .store .ensures ∙ ap (λ (r : Reply). stored (s .args .out .now) (r .bytes)) (c .before .before .before .before .before .reply-to .ensures)),
-        λ p l. written (lent s) p (c .before .before .before .before .before .reply-to .result) (s .args .out .now) _ (c .before .before .before .before .before .reply-to .ensures) whole (c .before .before .store .ensures),
-      ),
-    )
+    let reply = c .before .before .before .before .before .reply-to in
+    let store = c .before .before .store in
+    let s = c .before .before .before .before .before .before .before .before .before .before .before in
+    let sized : length (reply .result .bytes) ≡ 176 = search needs in
+    let enough = le-ltb (length (s .args .out .now)) 176 (c .before .before .before .before .before .before .if1 .left) in
+    record {
+      answer = rw enough (ap (λ (r : Reply). r .number) (reply .ensures));
+      output = rw enough (store .ensures ∙ ap (λ (r : Reply). stored (s .args .out .now) (r .bytes)) (reply .ensures));
+      demand = λ p l. written (lent s) p (reply .result) (s .args .out .now) _ (reply .ensures) sized (store .ensures);
+    }
 
 pub solve-fields-spec : {M : Type 1} → statement M
 solve-fields-spec =

@@ -45,11 +45,10 @@ use denote.Exit.{yes}
 use Rattle.receptions.specs.Receptions.{listedAt, fieldsOf, receptionIn}
 use Rattle.receptions.specs.declared.Reception.{Reception}
 use Rattle.receptions.specs.declared.Fields.{Fields}
-use Rattle.inputs.specs.Faults.{passed}
-use Rattle.inputs.specs.Inputs.{Inputs, inputsOf, checkInputs, problemOf}
+use Rattle.inputs.specs.Inputs.{Inputs, inputsOf}
 use Rattle.inputs.proofs.Alike.{nothing-else}
-use Rattle.entry.specs.Reply.{given, answer, output, Demanded}
-use Rattle.entry.proofs.Unpacked.{few-all, few-within, Solved, solved}
+use Rattle.entry.specs.Reply.{given, Promise}
+use Rattle.entry.proofs.Unpacked.{few-all, few-within, solved}
 use Rattle.receptions.proofs.Reception as T
 use Rattle.receptions.proofs.Fields as S
 use Rattle.receptions.proofs.Fields.Laws as S′
@@ -164,20 +163,11 @@ module _ {M : Type 1} (𝓤 : URA M) (H : Heap 𝓤) (A : Atoms 𝓤) (W : Given
   abbrev Tokens : Item 𝓤
   Tokens = ‵ (flft κ₁ q₁) ⊛ (‵ (flft κ₂ q₂) ⊛ (‵ (flft κ₃ q₃) ⊛ (‵ (flft κ₄ q₄) ⊛ ‵ ftrue)))
 
-  -- the three promises, with receptions from the list or from arrays
+  -- the inputs, with receptions from the list or from arrays
   abbrev From : (ℕ → Reception) → Inputs
   From receptions = inputsOf true n receptions (given present) (now s₁) (now s₂) (now s₃)
 
-  abbrev Answers : (ℕ → Reception) → ℕ → Type 0
-  Answers receptions r = r ≡ answer (From receptions) ys
-
-  abbrev Writes : (ℕ → Reception) → List ℕ → Type 0
-  Writes receptions zs = zs ≡ output (From receptions) ys
-
-  abbrev Demands : (ℕ → Reception) → List ℕ → Type 0
-  Demands receptions zs = checkInputs (From receptions) ≡ passed → 176 ≤ length ys → Demanded (problemOf (From receptions)) zs
-
-  exits : (r : ℕ) (z : Val) (zs : List ℕ) → Solved (From (listedAt xs)) ys r zs → length zs ≡ length ys
+  exits : (r : ℕ) (z : Val) (zs : List ℕ) → Promise (From (listedAt xs)) ys r zs → length zs ≡ length ys
       → ent 𝓤 (⋆ 𝓤 H A (Tokens ∷ (‵ (flft κ q) ⊛ ‵ ftrue) ∷ ‵ (finally u8 γ zs) ∷ ‵ (u32 .own r (z ∷ [])) ∷ [])) (Post z)
   exits r z zs e l =
       qed W (Tokens ∷ (‵ (flft κ q) ⊛ ‵ ftrue) ∷ ‵ (finally u8 γ zs) ∷ ‵ (u32 .own r (z ∷ [])) ∷ []) ∵
@@ -187,8 +177,7 @@ module _ {M : Type 1} (𝓤 : URA M) (H : Heap 𝓤) (A : Atoms 𝓤) (W : Given
       move ! (2 ∷ 1 ∷ []) $ fjoin ! $ nothing ! $ fjoin ! $ nothing ! $ fjoin ! $ nothing ! $ fjoin ! $ nothing ! $ fjoin ! $ nothing ! $ fjoin ! $
       -- [the last bytes; the tokens; the result]
       move ! (0 ∷ 2 ∷ []) $ join ! $ move ! (1 ∷ 0 ∷ []) $ join ! $ frame ! $
-      use0 W (raw (fact 𝓤 (Demands (listedAt xs) zs))) (factI 𝓤 _ (emp 𝓤) (e .1 .1)) $ use0 W (raw (fact 𝓤 (Writes (listedAt xs) zs))) (factI 𝓤 _ (emp 𝓤) (e .1 .0)) $ join ! $
-      use0 W (raw (fact 𝓤 (Answers (listedAt xs) r))) (factI 𝓤 _ (emp 𝓤) (e .0)) $ join ! $ done !
+      use0 W (raw (fact 𝓤 (Promise (From (listedAt xs)) ys r zs))) (factI 𝓤 _ (emp 𝓤) e) $ done !
 
   -- the call of `few`
   abbrev to-few : Few 𝓤 H A mem run .Ghost
@@ -230,17 +219,17 @@ module _ {M : Type 1} (𝓤 : URA M) (H : Heap 𝓤) (A : Atoms 𝓤) (W : Given
 
   -- what it promises, of the last bytes zs
   abbrev Said : Fields → ℕ → List ℕ → Item 𝓤
-  Said f r zs = (‵ (finally u8 γ zs) ⊛ raw (fact 𝓤 (length zs ≡ length ys))) ⊛ raw (fact 𝓤 (Solved (From (receptionIn f)) ys r zs))
+  Said f r zs = (‵ (finally u8 γ zs) ⊛ raw (fact 𝓤 (length zs ≡ length ys))) ⊛ raw (fact 𝓤 (Promise (From (receptionIn f)) ys r zs))
 
   fields-said : (f : Fields) (r : ℕ) → ent 𝓤 (ensured 𝓤 H A fields.ended (fields.clauses 𝓤 H A mem run) κs (args f) tt r) (ex 𝓤 (λ (zs : List ℕ). mean 𝓤 H A (Said f r zs)))
   fields-said f r =
       exE 𝓤 _ (λ (ends : Lasts fields.ended κs (args f)).
       let zs : List ℕ = ends .1 .1 .1 .1 .1 .1 .1 .0 in
-      qed W (‵ (lasts fields.ended κs (args f) ends) ∷ (raw (fact 𝓤 (Answers (receptionIn f) r)) ⊛ raw (fact 𝓤 (Writes (receptionIn f) zs)) ⊛ raw (fact 𝓤 (Demands (receptionIn f) zs))) ∷ []) ∵
-      move ! (1 ∷ []) $ split3 ! $ heard ! (Answers (receptionIn f) r) (λ e. heard ! (Writes (receptionIn f) zs) (λ e₁. heard ! (Demands (receptionIn f) zs) (λ e₂.
+      qed W (‵ (lasts fields.ended κs (args f) ends) ∷ raw (fact 𝓤 (Promise (From (receptionIn f)) ys r zs)) ∷ []) ∵
+      move ! (1 ∷ []) $ heard ! (Promise (From (receptionIn f)) ys r zs) (λ e.
       -- nothing is said of the seven before the output
       fsplit ! $ drop ! $ fsplit ! $ drop ! $ fsplit ! $ drop ! $ fsplit ! $ drop ! $ fsplit ! $ drop ! $ fsplit ! $ drop ! $ fsplit ! $ drop ! $ fsplit ! $ fsplit ! $ move ! (1 ∷ []) $ feqL ! (λ l.
-      show ! (λ (zs′ : List ℕ). mean 𝓤 H A (Said f r zs′)) zs $ says ! (e, (e₁, e₂)) $ says ! l $ keep ! (0 ∷ []) $ done !)))))
+      show ! (λ (zs′ : List ℕ). mean 𝓤 H A (Said f r zs′)) zs $ says ! e $ says ! l $ keep ! (0 ∷ []) $ done !)))
 
   module _ (room : Room R n) (room₁ : Room u8 (length (now s₁))) (room₂ : Room u8 (length (now s₂))) (room₃ : Room u8 (length (now s₃))) (small : present < 2 ^ 32) (room₄ : Room u8 (length ys))
       (𝓣 : Tables 𝓤 H) (known-few : Triple 𝓤 (𝓣 .C #few) (Few 𝓤 H A mem run)) (known-list : Triple 𝓤 (𝓣 .C #of-list) (OfList 𝓤 H A mem run)) (known-fields : Triple 𝓤 (𝓣 .C #fields) (SolveFields 𝓤 H A mem run)) where
@@ -276,7 +265,7 @@ module _ {M : Type 1} (𝓤 : URA M) (H : Heap 𝓤) (A : Atoms 𝓤) (W : Given
           (and-then ! (load ! (from ! (stop !)) (look ! 8 refl)) (and-then ! (true-lit !) (and-then ! (load ! (from ! (stop !)) (look ! 10 refl)) (and-then ! (load ! (from ! (stop !)) (look ! 20 refl)) (and-then ! (load ! (from ! (stop !)) (look ! 18 refl))
           (and-then ! (load ! (from ! (stop !)) (look ! 16 refl)) (and-then ! (load ! (from ! (stop !)) (look ! 14 refl)) (and-then ! (load ! (from ! (stop !)) (look ! 2 refl)) (no-more !))))))))) (λ z.
           use1 W (later (some (λ (r : ℕ). (Tokens ⊛ ‵ (u32 .own r (z ∷ []))) ⊛ raw (ensured 𝓤 H A fields.ended (fields.clauses 𝓤 H A mem run) κs (args f) tt r)))) (id⊢ 𝓤 _) $ await ! tt $ pick ! (λ r.
-          split ! $ move ! (1 ∷ []) $ use1 W (some (Said f r)) (fields-said f r) $ pick ! (λ zs. split ! $ move ! (1 ∷ []) $ heard ! (Solved (From (receptionIn f)) ys r zs) (λ e. split ! $ move ! (1 ∷ []) $ heard ! (length zs ≡ length ys) (λ l.
+          split ! $ move ! (1 ∷ []) $ use1 W (some (Said f r)) (fields-said f r) $ pick ! (λ zs. split ! $ move ! (1 ∷ []) $ heard ! (Promise (From (receptionIn f)) ys r zs) (λ e. split ! $ move ! (1 ∷ []) $ heard ! (length zs ≡ length ys) (λ l.
           move ! (1 ∷ []) $ split ! $ move ! (1 ∷ []) $ peeks ! u32 (Is u32) (shows 𝓤 H A u32) r (z ∷ []) (λ is.
           -- [the result; the other tokens; the last bytes; the list's token; _11; …; _0; …]
           land ! (from ! (stop !)) (init ! 26 refl (uint-lawful 𝓤 H A W w32 .typed r _ is .0)) $
