@@ -12,7 +12,7 @@ from-bits-requires c κs = search needs
 
 returns : tie.Need-returns
 unfolding f64At
-returns c = cc
+returns c = rw (c .from-bits .ensures, c .before .u64-at .ensures)
 
 pub f64-at-spec : {M : Type 1} → statement M
 f64-at-spec =

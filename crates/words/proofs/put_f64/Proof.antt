@@ -15,7 +15,7 @@ same-length c = search needs
 
 returns : tie.Need-returns
 unfolding putF64
-returns c = cc
+returns c = rw (c .before .before .put-u64 .ensures, c .before .before .before .to-bits .ensures)
 
 pub put-f64-spec : {M : Type 1} → statement M
 put-f64-spec =

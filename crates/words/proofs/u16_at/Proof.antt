@@ -12,7 +12,7 @@ cast-result c = search needs
 
 returns : tie.Need-returns
 unfolding u16At
-returns c = search needs
+returns c = c .pair-at .ensures .0
 
 pub u16-at-spec : {M : Type 1} → statement M
 u16-at-spec = tie.close (tie.spec pair-at-requires cast-result returns)

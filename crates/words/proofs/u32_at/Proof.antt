@@ -12,7 +12,7 @@ cast-result c = search needs
 
 returns : tie.Need-returns
 unfolding u32At
-returns c = search needs
+returns c = c .quad-at .ensures .0
 
 pub u32-at-spec : {M : Type 1} → statement M
 u32-at-spec = tie.close (tie.spec quad-at-requires cast-result returns)
