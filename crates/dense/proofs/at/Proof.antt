@@ -1,5 +1,5 @@
 -- `dense::at` meets its contract. The one fact behind its needs is `place`, that the entry lies in the matrix. Assumes nothing.
-use borrow.Author.Needs.{needs}
+use mathlib.Core.Path.{refl}
 use native.Mathlib.Omega.{arith}
 use Prim.Native.Nat.{_+_, _*_, _<_}
 use lib.ListN.{length}
@@ -24,7 +24,7 @@ shared-slice-read-result : tie.Need-shared-slice-read-result
 shared-slice-read-result c = omega (arith, inside (c .before))
 
 returns : tie.Need-returns
-returns c = search needs
+returns c = refl
 
 pub at-spec : {M : Type 1} → statement M
 at-spec =

@@ -1,5 +1,6 @@
 -- `dense::put` meets its contract. The one fact behind its needs is `place`, that the entry lies in the matrix. Assumes nothing.
 use borrow.Author.Needs.{needs}
+use mathlib.Core.Path.{refl}
 use native.Mathlib.Omega.{arith}
 use Prim.Native.Nat.{_+_, _*_, _<_}
 use lib.ListN.{length}
@@ -27,7 +28,7 @@ same-length : tie.Need-same-length
 same-length c = search needs
 
 returns : tie.Need-returns
-returns c = search needs
+returns c = refl
 
 pub put-spec : {M : Type 1} → statement M
 put-spec =
