@@ -22,6 +22,8 @@ pub mod Rounded
 pub mod Interval
 pub mod Runs
 pub mod Order
+pub mod Less
+pub mod Clear
 pub mod Tail
 pub mod Own
 pub mod Quotient

@@ -6,6 +6,7 @@ mod square_root;
 pub use rounding::round;
 pub use square_root::roots;
 pub use square_root::sqrt;
+pub use square_root::sqrt_near;
 ghost use mathlib.Core.Path.{_≡_};
 ghost use lib.Ieee.{binary64, toBits};
 ghost use Rattle.binary64.specs.Steps.{#, abs, isFinite, maxOf};

@@ -114,9 +114,10 @@ fn halved(x: f64) -> f64
     f64::from_bits(root_bits(bits))
 }
 
-// A number near the root of x, which has these bits. Nothing is promised of how near it is, and only
-// the time that a root takes turns on it: of a normal x it is the root all but once in some thousands.
-fn guess(x: f64, bits: u64) -> f64
+// A number near the root of x, from one near x, which has these bits. Nothing is promised of how near it
+// is, and only the time that a root takes turns on it: of a normal x, and `near` within 1 part in 10^12 of
+// it, it is the root all but once in some thousands.
+fn guess(x: f64, near: f64, bits: u64) -> f64
     requires { ⌜ bits < 2 ^ 63 ⌝ }
 {
     // 1 / the root of x, within 1 part in 7, then in 1,500, then in 3 million: two of Newton's steps,
@@ -124,11 +125,11 @@ fn guess(x: f64, bits: u64) -> f64
     // their factors chosen to make the greatest error over all x least. z1 and z are y1 and y over such
     // constants that x has no factor: y = 0.17442139308438256 * z
     let z0 = f64::from_bits(0x5fe4_0000_0000_0000 - (bits >> 1));
-    let z1 = 2.3892444307582887 * z0 - (x * z0) * (z0 * z0);
-    let z = 6.053894499091614 * z1 - (x * z1) * (z1 * z1);
+    let z1 = 2.3892444307582887 * z0 - (near * z0) * (z0 * z0);
+    let z = 6.053894499091614 * z1 - (near * z1) * (z1 * z1);
     // the root of x is g / the root of (1 - e) with g = x * y and e = 1 - g * y, which is, to the second
     // order in e, g + (x - g * g) * y * (0.5 + 0.375 * e)
-    let g = (0.17442139308438256 * x) * z;
+    let g = (0.17442139308438256 * near) * z;
     let slope = z * (0.15261871894883475 - 0.011408558387061262 * (g * z));
     // x - g * g, exactly: adding 3 * 2^26 times the power of two below g and taking it off leaves g's
     // upper binary digits in `top`
@@ -173,7 +174,7 @@ pub fn sqrt(x: f64) -> f64
     let bits = f64::to_bits(x);
     if bits >= LEAD {
         if bits < INFINITY {
-            let s = guess(x, bits);
+            let s = guess(x, x, bits);
             if off(bits, bits_of(s)) == 0 {
                 return s;
             }
@@ -190,7 +191,7 @@ fn guesses(d: &[f64; 32], k: usize, out: &mut [f64; 32])
 {
     for i in 0..k {
         let x = d[i];
-        out[i] = guess(x, bits_of(x) % SIGN);
+        out[i] = guess(x, x, bits_of(x) % SIGN);
     }
 }
 
@@ -202,6 +203,18 @@ fn unlike(x: f64, s: f64) -> u64
     // 0 where x lies from 2^-511 up to 2^513, so that it is normal
     let outside = (((bits >> 52) + 512) >> 10) ^ 1;
     outside | off(bits, bits_of(s))
+}
+
+// The root of x where a number near x is known before x is: what a guess waits for is `near`. Whatever
+// `near` is, this is the root of x.
+pub fn sqrt_near(x: f64, near: f64) -> f64
+    ensures { λ r. ⌜ r ≡ root x ⌝ }
+{
+    let s = guess(x, near, bits_of(near) % SIGN);
+    if unlike(x, s) == 0 {
+        return s;
+    }
+    sqrt(x)
 }
 
 // 0 only where out has the roots of the first k of d.

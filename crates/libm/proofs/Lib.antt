@@ -3,6 +3,7 @@ pub mod Infinity
 pub mod Cast
 pub mod Sizes
 pub mod Limit
+pub mod Magnitudes
 pub mod HighWords
 pub mod KernelBounds
 pub mod StageBounds

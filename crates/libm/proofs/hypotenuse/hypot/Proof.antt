@@ -1,60 +1,47 @@
--- `libm::hypotenuse::hypot` meets its contract: the returns are the two cases of the definition, and the test orders the words. Assumes nothing.
+-- `libm::hypotenuse::hypot` meets its contract: where the sum of squares is at least 0, x and y are numbers (`first-number`, `second-number`), whose
+-- bits below the sign have their magnitudes and high words (`magnitude`, `high-word`). Assumes nothing.
 use borrow.Author.Needs.{needs}
-use borrow.Author.Tests.{lt-ltb, le-ltb}
-use native.Mathlib.Omega.{arith}
-use Rattle.libm.specs.Hypotenuse.{hypot}
+use mathlib.Core.Path.{_≡_, refl}
+use mathlib.Core.Bool.{true, cond}
+use Prim.Native.Nat.{_/_, _%_, _^_}
+use lib.Dec.{ltb}
+use lib.Ieee.{Float, binary64, fits, toBits}
+use Rattle.binary64.specs.Steps.{#}
+use Rattle.binary64.proofs.Patterns.{le-number}
+use Rattle.libm.specs.Hypotenuse.{scaled, hypot}
+use Rattle.libm.proofs.Magnitudes.{magnitude, high-word, to-infinity, first-number, second-number}
 use Rattle.libm.proofs.hypotenuse.hypot.Statement.{statement}
 use Rattle.libm.proofs.hypotenuse.hypot.Tie as tie
 
-high-requires : tie.Need-high-requires
-high-requires c κs = search needs
+-- what `ordered` gives of the bits below the sign
+lengths
+    : (x y : Float) → fits binary64 x ≡ true → fits binary64 y ≡ true
+    → let p = toBits binary64 x % 2 ^ 63 in
+    let q = toBits binary64 y % 2 ^ 63 in
+    cond (ltb (p / 2 ^ 32) (q / 2 ^ 32)) (scaled (# q) (# p) (q / 2 ^ 32) (p / 2 ^ 32)) (scaled (# p) (# q) (p / 2 ^ 32) (q / 2 ^ 32)) ≡ hypot x y
+unfolding hypot
+lengths x y f g = rw (high-word x, high-word y, magnitude x f, magnitude y g)
 
-high-requires-2 : tie.Need-high-requires-2
-high-requires-2 c κs = search needs
+float-to-bits-ordered : tie.Need-float-to-bits-ordered
+float-to-bits-ordered c = first-number _ _ (le-number _ _ (c .if1 .taken))
 
-abs-requires : tie.Need-abs-requires
-abs-requires c κs = search needs
+float-to-bits-ordered-2 : tie.Need-float-to-bits-ordered-2
+float-to-bits-ordered-2 c = second-number _ _ (le-number _ _ (c .if1 .taken))
 
-abs-requires-2 : tie.Need-abs-requires-2
-abs-requires-2 c κs = search needs
-
-scaled-requires : tie.Need-scaled-requires
-scaled-requires c κs = omega arith
+ordered-requires : tie.Need-ordered-requires
+ordered-requires c κs =
+    let n = le-number _ _ (c .if1 .taken) in
+    let g = c .before .good in
+    (to-infinity _ (g .0 .1) (first-number _ _ n), to-infinity _ (g .1 .0 .1) (second-number _ _ n))
 
 returns : tie.Need-returns
-unfolding hypot
-returns c =
-    let at-if1 = c .before .before .before in
-    rw (← at-if1 .before .before .high .ensures, ← at-if1 .before .high2 .ensures, lt-ltb _ _ (at-if1 .if1 .taken))
-    (rw (← c .before .before .abs .ensures, ← c .before .abs2 .ensures, ← c .scaled .ensures))
+returns c = rw (c .ordered .ensures) (lengths _ _ (c .before .before .good .0 .1) (c .before .before .good .1 .0 .1))
 
-abs-requires-3 : tie.Need-abs-requires-3
-abs-requires-3 c κs = search needs
-
-abs-requires-4 : tie.Need-abs-requires-4
-abs-requires-4 c κs = search needs
-
-scaled-requires-2 : tie.Need-scaled-requires-2
-scaled-requires-2 c κs = omega arith
+by-words-requires : tie.Need-by-words-requires
+by-words-requires c κs = search needs
 
 returns-2 : tie.Need-returns-2
-unfolding hypot
-returns-2 c =
-    let at-if1 = c .before .before .before in
-    rw (← at-if1 .before .before .high .ensures, ← at-if1 .before .high2 .ensures, le-ltb _ _ (at-if1 .if1 .left))
-    (rw (← c .before .before .abs3 .ensures, ← c .before .abs4 .ensures, ← c .scaled2 .ensures))
+returns-2 c = search needs
 
 pub hypot-spec : {M : Type 1} → statement M
-hypot-spec =
-    tie.close
-    (tie.spec
-    high-requires
-    high-requires-2
-    abs-requires
-    abs-requires-2
-    scaled-requires
-    returns
-    abs-requires-3
-    abs-requires-4
-    scaled-requires-2
-    returns-2)
+hypot-spec = tie.close (tie.spec float-to-bits-ordered float-to-bits-ordered-2 ordered-requires returns by-words-requires returns-2)

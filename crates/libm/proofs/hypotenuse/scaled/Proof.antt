@@ -22,20 +22,20 @@ returns-2 c =
     let at-if1 = c .before .before .before in
     rw (le-ltb _ _ (at-if1 .if1 .left), lt-ltb _ _ (c .before .before .if2 .taken), le-leb _ _ (c .before .if3 .taken), ← c .inf-or-nan .ensures)
 
-sub-medium : tie.Need-sub-medium
-sub-medium c = omega arith
+sub-rescaled : tie.Need-sub-rescaled
+sub-rescaled c = omega arith
 
-sub-medium-2 : tie.Need-sub-medium-2
-sub-medium-2 c = omega arith
+sub-rescaled-2 : tie.Need-sub-rescaled-2
+sub-rescaled-2 c = omega arith
 
-medium-requires : tie.Need-medium-requires
-medium-requires c κs = omega arith
+rescaled-requires : tie.Need-rescaled-requires
+rescaled-requires c κs = omega arith
 
 returns-3 : tie.Need-returns-3
 unfolding scaled
 returns-3 c =
     let at-if1 = c .before .before .before in
-    rw (le-ltb _ _ (at-if1 .if1 .left), lt-ltb _ _ (c .before .before .if2 .taken), lt-leb _ _ (c .before .if3 .left), ← c .medium .ensures)
+    rw (le-ltb _ _ (at-if1 .if1 .left), lt-ltb _ _ (c .before .before .if2 .taken), lt-leb _ _ (c .before .if3 .left), ← c .rescaled .ensures)
 
 returns-4 : tie.Need-returns-4
 unfolding scaled
@@ -44,40 +44,40 @@ returns-4 c =
     rw (le-ltb _ _ (at-if2 .before .if1 .left), le-ltb _ _ (at-if2 .if2 .left), lt-ltb _ _ (c .before .before .if4 .taken))
     (rw (le-leb _ _ (c .before .if5 .taken), c .if6 .taken))
 
-medium-requires-2 : tie.Need-medium-requires-2
-medium-requires-2 c κs = omega arith
+rescaled-requires-2 : tie.Need-rescaled-requires-2
+rescaled-requires-2 c κs = omega arith
 
 returns-5 : tie.Need-returns-5
 unfolding scaled
 returns-5 c =
     let at-if4 = c .before .before .before in
     rw (le-ltb _ _ (at-if4 .before .before .if1 .left), le-ltb _ _ (at-if4 .before .if2 .left), lt-ltb _ _ (at-if4 .if4 .taken))
-    (rw (le-leb _ _ (c .before .before .if5 .taken), c .before .if6 .left, c .medium2 .ensures))
+    (rw (le-leb _ _ (c .before .before .if5 .taken), c .before .if6 .left, c .rescaled2 .ensures))
 
-add-medium : tie.Need-add-medium
-add-medium c = omega arith
+add-rescaled : tie.Need-add-rescaled
+add-rescaled c = omega arith
 
-add-medium-2 : tie.Need-add-medium-2
-add-medium-2 c = omega arith
+add-rescaled-2 : tie.Need-add-rescaled-2
+add-rescaled-2 c = omega arith
 
-medium-requires-3 : tie.Need-medium-requires-3
-medium-requires-3 c κs = omega arith
+rescaled-requires-3 : tie.Need-rescaled-requires-3
+rescaled-requires-3 c κs = omega arith
 
 returns-6 : tie.Need-returns-6
 unfolding scaled
 returns-6 c =
     let at-if2 = c .before .before .before in
     rw (le-ltb _ _ (at-if2 .before .if1 .left), le-ltb _ _ (at-if2 .if2 .left), lt-ltb _ _ (c .before .before .if4 .taken))
-    (rw (lt-leb _ _ (c .before .if5 .left), ← c .medium3 .ensures))
+    (rw (lt-leb _ _ (c .before .if5 .left), ← c .rescaled3 .ensures))
 
-medium-requires-4 : tie.Need-medium-requires-4
-medium-requires-4 c κs = omega arith
+medium-requires : tie.Need-medium-requires
+medium-requires c κs = omega arith
 
 returns-7 : tie.Need-returns-7
 unfolding scaled
 returns-7 c =
     let at-if1 = c .before .before .before in
-    rw (le-ltb _ _ (at-if1 .if1 .left), le-ltb _ _ (c .before .before .if2 .left), le-ltb _ _ (c .before .if4 .left), ← c .medium4 .ensures)
+    rw (le-ltb _ _ (at-if1 .if1 .left), le-ltb _ _ (c .before .before .if2 .left), le-ltb _ _ (c .before .if4 .left), ← c .medium .ensures)
 
 pub scaled-spec : {M : Type 1} → statement M
 scaled-spec =
@@ -87,16 +87,16 @@ scaled-spec =
     returns
     inf-or-nan-requires
     returns-2
-    sub-medium
-    sub-medium-2
-    medium-requires
+    sub-rescaled
+    sub-rescaled-2
+    rescaled-requires
     returns-3
     returns-4
-    medium-requires-2
+    rescaled-requires-2
     returns-5
-    add-medium
-    add-medium-2
-    medium-requires-3
+    add-rescaled
+    add-rescaled-2
+    rescaled-requires-3
     returns-6
-    medium-requires-4
+    medium-requires
     returns-7)
