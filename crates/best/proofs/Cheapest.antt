@@ -12,7 +12,7 @@ use Rattle.sets.proofs.Choosing.{choose-is, choice-unique}
 use Rattle.best.proofs.Order.{lt-split, lt-asym, le-of-not-lt, lt-of-not-le, le-lt}
 
 -- a choice is a candidate below k, whatever beats what
-chosen : (p : ℕ → Bool) (beats : ℕ → ℕ → Bool) (k i : ℕ) → choose p beats k ≡ some i → T (p i) × (i < k)
+pub chosen : (p : ℕ → Bool) (beats : ℕ → ℕ → Bool) (k i : ℕ) → choose p beats k ≡ some i → T (p i) × (i < k)
 unfolding choose consider
 chosen p beats zero i e = absurd (let z : _≡_ {A = ℕ} 0 1 = cc in omega arith)
 chosen p beats (suc k) i e = go (p k) refl (choose p beats k) (λ j q. chosen p beats k j q) e

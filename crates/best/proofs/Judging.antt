@@ -1,26 +1,39 @@
 -- The best, as an index that code holds, and what is made of it. Assumes nothing.
-use mathlib.Core.Path.{_≡_, sym, ap, ap₂, _∙_}
+use mathlib.Core.Path.{_≡_, sym, ap, ap₂, subst, _∙_}
 use mathlib.Core.Option.{Option, none, some}
 use mathlib.Core.Bool.{Bool, true, false, _&&_}
 use mathlib.Core.List.{List, map}
 use Prim.Native.Nat.{ℕ, _≤_, _<_}
-use lib.Dec.{ltb}
+use lib.Dec.{T, ltb}
 use lib.ListN.{length}
 use lib.Ieee.{Float}
+use lib.Ieee.Bits.{is-true}
+use Rattle.geo.specs.Geo.{fromEcef}
+use Rattle.geo.specs.declared.Geodetic.{Geodetic}
 use Rattle.dense.specs.Factor as factor
 use Rattle.dense.specs.Factor.{verdict}
 use Rattle.linalg.specs.Methods.{zeros}
+use Rattle.problem.specs.Problem.{position}
 use Rattle.problem.specs.declared.Altitude.{Altitude}
 use Rattle.whitening.specs.Covariance.{whitener}
 use Rattle.whitening.specs.Whitened.{chosen}
 use Rattle.sets.specs.Sets.{Subset, count}
 use Rattle.sets.specs.Choice.{choose, indexOf}
+use Rattle.sets.proofs.Tests.{and-l}
 use Rattle.sets.proofs.Choosing.{chosen-some, chosen-none, chosen-below}
 use Rattle.damped.specs.declared.Fit.{Fit}
 use Rattle.damped.specs.Damped.{levenbergMarquardt}
 use Rattle.best.specs.declared.Unfit.{Unfit}
 use Rattle.best.specs.declared.Unfit.the-variants.{NoConvergence, OutOfRange, Ambiguous, Singular}
-use Rattle.best.specs.Best.{Outcome, gives, fails, explainsAlike, fitAt, cheaper, any, weighed, rival, bestOf, judged, best, whitened, bestFit}
+use Rattle.best.specs.declared.BestAt.{BestAt}
+use Rattle.best.specs.Plausible.{plausible}
+use Rattle.best.specs.Best.{Outcome, gives, fails, asBest, explainsAlike, fitAt, cheaper, any, weighed, rival, bestOf, judged, best, whitened, bestFit}
+use Rattle.best.specs.Held.{asBestAt}
+use Rattle.best.proofs.Cheapest as cheapest
+
+-- the best, or why there is none, beside a place
+abbrev held-at : Outcome Unfit Fit → Geodetic → BestAt
+held-at o g = record { best = asBest o; place = g }
 
 -- what the code holds of the fits: how many they are, the set S of those that are weighed, and the index of the best, which is 32 for none
 pub record Held (sites : List Float) (k : ℕ) (fits : List Fit) (n top : ℕ) (S : Subset) : Type 0 where
@@ -45,6 +58,12 @@ module _ {sites : List Float} {k : ℕ} {fits : List Fit} {n top : ℕ} {S : Sub
   pub below : top < 32 → top < n
   below h = chosen-below S (cheaper fits) n top (held .few) (held .index) h
 
+  -- it is weighed, so it converged
+  pub top-converged : top < 32 → fitAt fits top .ok ≡ true
+  top-converged h =
+      let t = cheapest.chosen S (cheaper fits) n top (chosen-some S (cheaper fits) n top (held .few) (held .index) h) .0 in
+      is-true (fitAt fits top .ok) (and-l (fitAt fits top .ok) (plausible sites k (fitAt fits top .params)) (subst (λ (R : Subset). T (R top)) (held .set) t))
+
   module _ (r : Bool) (h : top < 32) (fit : Fit) (f : fit ≡ fitAt fits top) (e : r ≡ ltb 0 (count (λ i. S i && explainsAlike fit (fitAt fits i)) n)) where
     rivalled : r ≡ any (rival sites k (fitAt fits top)) fits
     rivalled =
@@ -56,6 +75,10 @@ module _ {sites : List Float} {k : ℕ} {fits : List Fit} {n top : ℕ} {S : Sub
 
     pub alone : r ≡ false → gives fit ≡ answer
     alone g = rw (some-is h, ← rivalled, g) (ap gives f)
+
+    -- beside it its place
+    pub alone-at : r ≡ false → (g : Geodetic) → g ≡ fromEcef (position (fit .params)) → held-at (gives fit) g ≡ asBestAt answer
+    alone-at q g e = ap (held-at (gives fit)) e ∙ ap asBestAt (alone q)
 
   module _ (r : Bool) (h : 32 ≤ top) (e : r ≡ any (λ fit. fit .ok) fits) where
     pub out-of-range : r ≡ true → fails OutOfRange ≡ answer

@@ -1,13 +1,13 @@
 -- What each loop over the fits has found, and what one fit more adds. Assumes nothing.
-use mathlib.Core.Path.{_≡_, refl, sym, ap, ap₂, fun-ext, _∙_}
+use mathlib.Core.Path.{_≡_, refl, sym, ap, ap₂, subst, fun-ext, _∙_}
 use mathlib.Core.Logic.{_⊎_, inl, inr}
 use mathlib.Core.Bool.{Bool, true, false, not, cond, _&&_, _||_}
 use mathlib.Core.List.{List, [], _∷_, _++_, map, map-append}
-use Prim.Native.Nat.{ℕ, suc, _+_, _-_, _≤_, _<_, min}
+use Prim.Native.Nat.{ℕ, zero, suc, _+_, _-_, _≤_, _<_, min}
 use native.Mathlib.Omega.{arith}
 use native.Mathlib.Numerals.{add-one}
 use lib.Dec.{T, ltb, leb, eqb, ltb→lt, nltb→le}
-use lib.ListN.{length, set, take, replicate, length-map, length-take, List·getD-eq-default}
+use lib.ListN.{length, getD, set, take, replicate, length-map, length-take, List·getD-eq-default, List·getD-map, List·getD-append}
 use lib.Seq.{append-snoc, set-append-seam, take-at, getD-take}
 use lib.Ieee.{Float, le}
 use borrow.Author.Tests.{le-leb, lt-ltb, eq-eqb, ne-eqb}
@@ -17,10 +17,15 @@ use Rattle.sets.specs.Choice.{choose, indexOf}
 use Rattle.sets.proofs.Tests.{either}
 use Rattle.sets.proofs.Digits.{has-zero}
 use Rattle.sets.proofs.Choosing.{choice-turn}
+use Rattle.geo.specs.Geo.{fromEcef}
+use Rattle.problem.specs.Problem.{position}
 use Rattle.damped.specs.declared.Fit.{Fit}
+use Rattle.damped.specs.declared.Placed.{Placed}
 use Rattle.damped.specs.Damped.{unfitted}
+use Rattle.damped.specs.Placed.{nowhere, placed}
 use Rattle.starts.specs.Points.{point}
 use Rattle.best.specs.Best.{fitAt, cheaper, pointsTo}
+use Rattle.best.specs.Held.{fitsOf, placedAt, EachPlaced}
 use Rattle.best.proofs.Listing.{points-length}
 
 -- what lies past the last of a list of fits
@@ -48,27 +53,60 @@ any-turn S i = go (S i) refl ∙ ap (λ (x : ℕ). ltb 0 (count S x)) (sym (add-
 pub any-next : (S : Subset) (i : ℕ) (b t r : Bool) → b ≡ ltb 0 (count S i) → t ≡ S i → r ≡ (b || t) → r ≡ ltb 0 (count S (i + 1))
 any-next S i b t r e f g = g ∙ ap₂ (λ (x y : Bool). x || y) e f ∙ any-turn S i
 
--- ---- the fits from the first i starts, and none in the other of 18 places
-module _ (f : List Float → Fit) (at : List Float) where
-  abbrev made : ℕ → List Fit
+-- the i-th of the fits alone
+pub fit-at : (fits : List Placed) (i : ℕ) → fitAt (fitsOf fits) i ≡ placedAt fits i .fit
+fit-at fits i = List·getD-map (λ (x : Placed). x .fit) fits i (placedAt [] 0)
+
+-- of the first n of them
+pub fit-front : (fits : List Placed) (n i : ℕ) → i < n → placedAt fits i .fit ≡ fitAt (take n (fitsOf fits)) i
+fit-front fits n i h = sym (getD-take n (fitsOf fits) i nothing h ∙ fit-at fits i)
+
+-- ---- the fits from the first i starts with their places, and none past them in 18 places
+module _ (f : List Float → Placed) (at : List Float) where
+  abbrev made : ℕ → List Placed
   made i = map f (pointsTo at i)
 
   made-length : (i : ℕ) → length (made i) ≡ i
   made-length i = length-map (pointsTo at i) f ∙ points-length at i
 
-  abbrev pub fitsTo : ℕ → List Fit
-  fitsTo i = made i ++ replicate (18 - i) unfitted
+  abbrev pub fitsTo : ℕ → List Placed
+  fitsTo i = made i ++ replicate (18 - i) (placed unfitted)
 
-  pub fits-turn : (i : ℕ) (fit : Fit) → i < 18 → fit ≡ f (point at i) → set (fitsTo i) i fit ≡ fitsTo (i + 1)
+  pub fits-turn : (i : ℕ) (fit : Placed) → i < 18 → fit ≡ f (point at i) → set (fitsTo i) i fit ≡ fitsTo (i + 1)
   unfolding pointsTo
   fits-turn i fit h g =
-      let rest : List Fit = replicate (18 - (i + 1)) unfitted in
+      let rest : List Placed = replicate (18 - (i + 1)) (placed unfitted) in
       let room : 18 - i ≡ suc (18 - (i + 1)) = omega arith in
-      ap₂ (λ (m j : ℕ). set (made i ++ replicate m unfitted) j fit) room (sym (made-length i)) ∙ set-append-seam (made i) unfitted rest fit ∙ ap (λ (x : Fit). made i ++ x ∷ rest) g
-      ∙ sym (append-snoc (made i) (f (point at i)) rest) ∙ ap (λ (fs : List Fit). fs ++ rest) (sym (map-append f (pointsTo at i) (point at i ∷ [])) ∙ ap made (sym (add-one i)))
+      ap₂ (λ (m j : ℕ). set (made i ++ replicate m (placed unfitted)) j fit) room (sym (made-length i)) ∙ set-append-seam (made i) (placed unfitted) rest fit ∙ ap (λ (x : Placed). made i ++ x ∷ rest) g
+      ∙ sym (append-snoc (made i) (f (point at i)) rest) ∙ ap (λ (fs : List Placed). fs ++ rest) (sym (map-append f (pointsTo at i) (point at i ∷ [])) ∙ ap made (sym (add-one i)))
 
-  pub fits-front : (i : ℕ) (fits : List Fit) → fits ≡ fitsTo i → take i fits ≡ made i
-  fits-front i fits e = ap (take i) e ∙ take-at (made i) (replicate (18 - i) unfitted) i (made-length i)
+  alone : (xs : List (List Float)) → fitsOf (map f xs) ≡ map (λ (x : List Float). f x .fit) xs
+  alone [] = refl
+  alone (x ∷ xs) = ap (λ (fs : List Fit). f x .fit ∷ fs) (alone xs)
+
+  -- the fits alone of the first i
+  pub fits-front : (i : ℕ) (fits : List Placed) → fits ≡ fitsTo i → take i (fitsOf fits) ≡ map (λ (x : List Float). f x .fit) (pointsTo at i)
+  fits-front i fits e =
+      let rest : List Placed = replicate (18 - i) (placed unfitted) in
+      ap (λ (fs : List Placed). take i (fitsOf fs)) e ∙ ap (take i) (map-append (λ (x : Placed). x .fit) (made i) rest)
+      ∙ take-at (fitsOf (made i)) (fitsOf rest) i (length-map (made i) (λ (x : Placed). x .fit) ∙ made-length i) ∙ alone (pointsTo at i)
+
+  mapped : (xs : List (List Float)) (d : Placed) (j : ℕ) → j < length xs → getD (map f xs) j d ≡ f (getD xs j [])
+  mapped [] d j h = absurd (omega arith)
+  mapped (x ∷ xs) d zero h = refl
+  mapped (x ∷ xs) d (suc j) h = mapped xs d j (omega arith)
+
+  -- beside each of them stands its place, if f gives it
+  pub fits-placed : (i : ℕ) (fits : List Placed) → fits ≡ fitsTo i → ((x : List Float) → f x ≡ placed (f x .fit)) → EachPlaced fits i
+  fits-placed i fits e own j h =
+      let within : j < length (made i) = subst (λ (m : ℕ). j < m) (sym (made-length i)) h in
+      let listed : j < length (pointsTo at i) = subst (λ (m : ℕ). j < m) (sym (points-length at i)) h in
+      let is : placedAt fits j ≡ f (getD (pointsTo at i) j []) = ap (λ (fs : List Placed). placedAt fs j) e ∙ List·getD-append (made i) (replicate (18 - i) (placed unfitted)) (placedAt [] 0) j within ∙ mapped (pointsTo at i) (placedAt [] 0) j listed in
+      is ∙ own (getD (pointsTo at i) j []) ∙ ap (λ (x : Placed). placed (x .fit)) (sym is)
+
+-- the place beside a fit that converged
+pub place-at : (x : Placed) → x ≡ placed (x .fit) → x .fit .ok ≡ true → x .place ≡ fromEcef (position (x .fit .params))
+place-at x e h = ap (λ (y : Placed). y .place) e ∙ ap (λ (b : Bool). cond b (fromEcef (position (x .fit .params))) nowhere) h
 
 -- ---- the mask of those that pass a test
 module _ (p : Fit → Bool) (none : p nothing ≡ false) (fits : List Fit) where

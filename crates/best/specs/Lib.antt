@@ -1,4 +1,5 @@
 pub mod Plausible
 pub mod Best
+pub mod Held
 pub mod OfProblem
 pub mod Meaning

@@ -8,16 +8,22 @@ ghost use lib.Dec.{ltb, leb};
 ghost use lib.ListN.{take, replicate};
 ghost use lib.Ieee.{le, lt};
 ghost use Rattle.binary64.specs.Steps.{_⊕_, decimal};
+ghost use Rattle.geo.specs.Geo.{fromEcef};
 ghost use Rattle.sets.specs.Sets as sets;
 ghost use Rattle.sets.specs.Mask.{has};
 ghost use Rattle.sets.specs.Choice.{choose, indexOf};
+ghost use Rattle.problem.specs.Problem.{position};
 ghost use Rattle.problem.specs.Gathered.{pick};
 ghost use Rattle.limits.specs.Heights.{minHeightM, maxHeightM};
 ghost use Rattle.whitening.specs.Whitened.{chosen};
 ghost use Rattle.damped.specs.Damped.{unfitted, levenbergMarquardt};
+ghost use Rattle.damped.specs.Placed.{nowhere, placed};
 ghost use Rattle.best.specs.Plausible.{maxRangeM, range, nearTo, plausible};
-ghost use Rattle.best.specs.Best.{fails, asBest, distance, explainsAlike, fitAt, cheaper, any, weighed, bestOf, judged, pointsTo, bestFit};
+ghost use Rattle.best.specs.Best.{fails, distance, explainsAlike, fitAt, cheaper, any, weighed, bestOf, judged, pointsTo, bestFit};
+ghost use Rattle.best.specs.Held.{EachPlaced, fitsOf, asBestAt};
 use damped::Fit;
+use damped::Placed;
+use geo::Geodetic;
 use linalg::Cholesky;
 use problem::Altitude;
 
@@ -39,6 +45,12 @@ pub struct Best {
     pub found: bool,
     pub why: Unfit,
     pub fit: Fit,
+}
+
+// The best fit and its place: zeros where there is none.
+pub struct BestAt {
+    pub best: Best,
+    pub place: Geodetic,
 }
 
 fn both(a: bool, b: bool) -> bool
@@ -87,14 +99,14 @@ fn flying(height: f64) -> bool
     )
 }
 
-// Where a solution may be: between the height limits and within range of every receiver used.
-pub fn plausible(sites: &[f64; 96], k: usize, p: [f64; 4]) -> bool
-    requires { ⌜ k ≤ 32 ⌝ }
+// Where a solution may be: between the height limits and within range of every receiver used. Its place
+// is known.
+pub fn plausible(sites: &[f64; 96], k: usize, p: [f64; 4], place: Geodetic) -> bool
+    requires { ⌜ (k ≤ 32) × (place ≡ fromEcef (position p)) ⌝ }
     ensures { λ r. ⌜ r ≡ plausible (now (sites .entry)) k p ⌝ }
 {
-    let x = [p[0], p[1], p[2]];
-    let position = geo::from_ecef(x);
-    if flying(position.height_m) {
+    if flying(place.height_m) {
+        let x = [p[0], p[1], p[2]];
         return all_near(sites, k, x);
     }
     false
@@ -113,7 +125,25 @@ fn no_fit() -> Fit
     }
 }
 
-// The fits from the first `count` starts, and none in the other places.
+fn nowhere() -> Geodetic
+    ensures { λ r. ⌜ r ≡ nowhere ⌝ }
+{
+    Geodetic {
+        lat_deg: 0.0,
+        lon_deg: 0.0,
+        height_m: 0.0,
+    }
+}
+
+fn no_placed() -> Placed
+    ensures { λ r. ⌜ r ≡ placed unfitted ⌝ }
+{
+    let fit = no_fit();
+    let place = nowhere();
+    Placed { fit, place }
+}
+
+// The fits from the first `count` starts with their places, and none past them.
 fn fits(
     sites: &[f64; 96],
     z: &[f64; 32],
@@ -122,11 +152,11 @@ fn fits(
     altitude: Altitude,
     at: &[f64; 72],
     count: usize,
-) -> [Fit; 18]
+) -> [Placed; 18]
     requires { ⌜ (k ≤ 32) × (count ≤ 18) ⌝ }
-    ensures { λ r. ⌜ r ≡ map (levenbergMarquardt (chosen k (now (sites .entry)) (now (z .entry)) (now (l .entry)) altitude)) (pointsTo (now (at .entry)) count) ++ replicate (18 - count) unfitted ⌝ }
+    ensures { λ r. ⌜ r ≡ map (λ p. placed (levenbergMarquardt (chosen k (now (sites .entry)) (now (z .entry)) (now (l .entry)) altitude) p)) (pointsTo (now (at .entry)) count) ++ replicate (18 - count) (placed unfitted) ⌝ }
 {
-    let none = no_fit();
+    let none = no_placed();
     let mut fits = [none; 18];
     for i in 0..count {
         let fit = damped::levenberg_marquardt(sites, z, k, l, altitude, starts::point(at, i));
@@ -136,21 +166,22 @@ fn fits(
 }
 
 // Whether a fit converged and is plausible.
-fn weigh(sites: &[f64; 96], k: usize, fit: Fit) -> bool
-    requires { ⌜ k ≤ 32 ⌝ }
-    ensures { λ r. ⌜ r ≡ weighed (now (sites .entry)) k fit ⌝ }
+fn weigh(sites: &[f64; 96], k: usize, at: Placed) -> bool
+    requires { ⌜ (k ≤ 32) × (at ≡ placed (at .fit)) ⌝ }
+    ensures { λ r. ⌜ r ≡ weighed (now (sites .entry)) k (at .fit) ⌝ }
 {
+    let fit = at.fit;
     if fit.ok {
         let p = fit.params;
-        return plausible(sites, k, p);
+        return plausible(sites, k, p, at.place);
     }
     false
 }
 
 // Which of the fits are weighed, as a mask.
-fn weighed(sites: &[f64; 96], k: usize, fits: [Fit; 18], count: usize) -> u32
-    requires { ⌜ (k ≤ 32) × (count ≤ 18) ⌝ }
-    ensures { λ r. ⌜ has r ≡ (λ i. weighed (now (sites .entry)) k (fitAt (take count fits) i)) ⌝ }
+fn weighed(sites: &[f64; 96], k: usize, fits: [Placed; 18], count: usize) -> u32
+    requires { ⌜ (k ≤ 32) × (count ≤ 18) × EachPlaced fits count ⌝ }
+    ensures { λ r. ⌜ has r ≡ (λ i. weighed (now (sites .entry)) k (fitAt (take count (fitsOf fits)) i)) ⌝ }
 {
     let mut mask = 0u32;
     for i in 0..count {
@@ -179,14 +210,14 @@ fn replaces(weighed: bool, cost: f64, top: usize, least: f64) -> bool
 }
 
 // The first of those with the lowest cost, of the fits in the mask, or NONE.
-fn best_of(fits: [Fit; 18], mask: u32, count: usize) -> usize
+fn best_of(fits: [Placed; 18], mask: u32, count: usize) -> usize
     requires { ⌜ count ≤ 18 ⌝ }
-    ensures { λ r. ⌜ r ≡ indexOf (choose (has mask) (cheaper (take count fits)) count) ⌝ }
+    ensures { λ r. ⌜ r ≡ indexOf (choose (has mask) (cheaper (take count (fitsOf fits))) count) ⌝ }
 {
     let mut top = sets::NONE;
     let mut least = 0.0;
     for i in 0..count {
-        let cost = fits[i].cost;
+        let cost = fits[i].fit.cost;
         if replaces(sets::has(mask, i), cost, top, least) {
             top = i;
             least = cost;
@@ -196,13 +227,13 @@ fn best_of(fits: [Fit; 18], mask: u32, count: usize) -> usize
 }
 
 // Whether one of the fits converged.
-fn converged(fits: [Fit; 18], count: usize) -> bool
+fn converged(fits: [Placed; 18], count: usize) -> bool
     requires { ⌜ count ≤ 18 ⌝ }
-    ensures { λ r. ⌜ r ≡ any (λ fit. fit .ok) (take count fits) ⌝ }
+    ensures { λ r. ⌜ r ≡ any (λ fit. fit .ok) (take count (fitsOf fits)) ⌝ }
 {
     let mut so_far = false;
     for i in 0..count {
-        so_far = either(so_far, fits[i].ok);
+        so_far = either(so_far, fits[i].fit.ok);
     }
     so_far
 }
@@ -232,47 +263,53 @@ fn rival(best: Fit, other: Fit, limit: f64) -> bool
 }
 
 // Whether one of the fits in the mask is a rival of the best.
-fn rivalled(fits: [Fit; 18], mask: u32, best: Fit, count: usize) -> bool
+fn rivalled(fits: [Placed; 18], mask: u32, best: Fit, count: usize) -> bool
     requires { ⌜ count ≤ 18 ⌝ }
-    ensures { λ r. ⌜ r ≡ ltb 0 (sets.count (λ i. has mask i && explainsAlike best (fitAt (take count fits) i)) count) ⌝ }
+    ensures { λ r. ⌜ r ≡ ltb 0 (sets.count (λ i. has mask i && explainsAlike best (fitAt (take count (fitsOf fits)) i)) count) ⌝ }
 {
     let limit = limits::chi2_limit(4);
     let mut so_far = false;
     for i in 0..count {
-        let other = fits[i];
+        let at = fits[i];
+        let other = at.fit;
         so_far = either(so_far, both(sets::has(mask, i), rival(best, other, limit)));
     }
     so_far
 }
 
-fn refused(why: Unfit) -> Best
-    ensures { λ r. ⌜ r ≡ asBest (fails why) ⌝ }
+fn refused(why: Unfit) -> BestAt
+    ensures { λ r. ⌜ r ≡ asBestAt (fails why) ⌝ }
 {
     let fit = no_fit();
-    Best {
+    let best = Best {
         found: false,
         why,
         fit,
-    }
+    };
+    let place = nowhere();
+    BestAt { best, place }
 }
 
 // What the fits come to.
-fn judged(sites: &[f64; 96], k: usize, fits: [Fit; 18], count: usize) -> Best
-    requires { ⌜ (k ≤ 32) × (count ≤ 18) ⌝ }
-    ensures { λ r. ⌜ r ≡ asBest (judged (now (sites .entry)) k (take count fits) (bestOf (now (sites .entry)) k (take count fits))) ⌝ }
+fn judged(sites: &[f64; 96], k: usize, fits: [Placed; 18], count: usize) -> BestAt
+    requires { ⌜ (k ≤ 32) × (count ≤ 18) × EachPlaced fits count ⌝ }
+    ensures { λ r. ⌜ r ≡ asBestAt (judged (now (sites .entry)) k (take count (fitsOf fits)) (bestOf (now (sites .entry)) k (take count (fitsOf fits)))) ⌝ }
 {
     let mask = weighed(sites, k, fits, count);
     let top = best_of(fits, mask, count);
     if top < sets::NONE {
-        let fit = fits[top];
+        let first = fits[top];
+        let fit = first.fit;
         if rivalled(fits, mask, fit, count) {
             return refused(Unfit::Ambiguous);
         }
-        return Best {
+        let best = Best {
             found: true,
             why: Unfit::NoConvergence,
             fit,
         };
+        let place = first.place;
+        return BestAt { best, place };
     }
     if converged(fits, count) {
         return refused(Unfit::OutOfRange);
@@ -295,10 +332,10 @@ pub fn best_fit(
     altitude: Altitude,
     at: &[f64; 72],
     count: usize,
-) -> Best
+) -> BestAt
     requires { ⌜ (n ≤ 32) × (k ≤ 32) × (count ≤ 18) ⌝ }
     requires { ⌜ ((a : ℕ) → a < k → pick (now index) a < n) ⌝ }
-    ensures { λ r. ⌜ r ≡ asBest (bestFit (now («clock_m2» .entry)) n (now («noise_m2» .entry)) (now (index .entry)) (now (sites .entry)) (now (z .entry)) k altitude (pointsTo (now (at .entry)) count)) ⌝ }
+    ensures { λ r. ⌜ r ≡ asBestAt (bestFit (now («clock_m2» .entry)) n (now («noise_m2» .entry)) (now (index .entry)) (now (sites .entry)) (now (z .entry)) k altitude (pointsTo (now (at .entry)) count)) ⌝ }
 {
     let mut factor = Cholesky {
         n: k,

@@ -1,1 +1,2 @@
 pub mod Damped
+pub mod Placed

@@ -1,15 +1,19 @@
 // The loop of the damped fit, and the test after it.
 ghost use mathlib.Core.Path.{_≡_};
+ghost use mathlib.Core.Bool.{true};
 ghost use Prim.Native.Nat.{_≤_};
-ghost use Rattle.whitening.specs.Whitened.{chosen};
+ghost use Rattle.whitening.specs.Whitened.{chosen, placeOf};
 ghost use Rattle.damped.specs.Damped.{fitted, unfitted, plain, run, levenbergMarquardt};
+ghost use Rattle.damped.specs.Placed.{nowhere, placed};
 use crate::Fit;
 use crate::LM_ITERATIONS;
 use crate::LM_LAMBDA;
 use crate::Lm;
+use crate::Placed;
 use crate::Verdict;
 use crate::descent;
 use crate::small;
+use geo::Geodetic;
 use problem::Altitude;
 
 // `Some` of a state as a fit.
@@ -55,39 +59,84 @@ fn plain(state: Lm) -> Fit
     unfitted()
 }
 
-// The loop of `levenberg_marquardt` from a state, and the test after it.
+// What stands in the place of a place where there is no fit.
+fn nowhere() -> Geodetic
+    ensures { λ r. ⌜ r ≡ nowhere ⌝ }
+{
+    Geodetic {
+        lat_deg: 0.0,
+        lon_deg: 0.0,
+        height_m: 0.0,
+    }
+}
+
+// The loop of `levenberg_marquardt` from a state of this place, and the test after it.
 fn run(
     start: Lm,
+    at: Geodetic,
     sites: &[f64; 96],
     z: &[f64; 32],
     k: usize,
     l: &[f64; 1024],
     altitude: Altitude,
-) -> Fit
-    requires { ⌜ k ≤ 32 ⌝ }
-    ensures { λ r. ⌜ r ≡ run (chosen k (now (sites .entry)) (now (z .entry)) (now (l .entry)) altitude) 50 start ⌝ }
+) -> Placed
+    requires { ⌜ (k ≤ 32) × (at ≡ placeOf altitude (start .params)) ⌝ }
+    ensures { λ r. ⌜ r .fit ≡ run (chosen k (now (sites .entry)) (now (z .entry)) (now (l .entry)) altitude) 50 start ⌝ }
+    ensures { λ r. ⌜ ((r .fit .ok ≡ true) → r .place ≡ placeOf altitude (r .fit .params)) ⌝ }
 {
     let mut state = start;
+    let mut place = at;
     for n in 0usize..LM_ITERATIONS {
-        let turn = state.step(sites, z, k, l, altitude);
+        let moved = state.step(place, sites, z, k, l, altitude);
+        let turn = moved.stepped;
+        let there = moved.place;
         let verdict = turn.verdict;
         let next = turn.state;
         match verdict {
             Verdict::Accepted => {}
             Verdict::Converged => {
-                return fitted(next);
+                let fit = fitted(next);
+                return Placed { fit, place: there };
             }
             Verdict::Rejected => {}
             Verdict::Stopped => {
-                return plain(next);
+                let fit = plain(next);
+                return Placed { fit, place: there };
             }
             Verdict::Failed => {
-                return unfitted();
+                let fit = unfitted();
+                return Placed { fit, place: there };
             }
         }
         state = next;
+        place = there;
     }
-    plain(state)
+    let fit = plain(state);
+    Placed { fit, place }
+}
+
+// A fit beside its place, which the last step that was taken has where there is an altitude.
+fn placed(fit: Fit, place: Geodetic, altitude: Altitude) -> Placed
+    requires { ⌜ ((fit .ok ≡ true) → place ≡ placeOf altitude (fit .params)) ⌝ }
+    ensures { λ r. ⌜ r ≡ placed fit ⌝ }
+{
+    if fit.ok {
+        let p = fit.params;
+        match altitude {
+            Altitude::None => {
+                let place = geo::from_ecef([p[0], p[1], p[2]]);
+                return Placed { fit, place };
+            }
+            Altitude::Barometric(metres) => {
+                return Placed { fit, place };
+            }
+            Altitude::Gnss(metres) => {
+                return Placed { fit, place };
+            }
+        }
+    }
+    let place = nowhere();
+    Placed { fit, place }
 }
 
 // Levenberg-Marquardt from `start` over the k receptions at `sites` that came at `z`, whitened by
@@ -99,11 +148,12 @@ pub fn levenberg_marquardt(
     l: &[f64; 1024],
     altitude: Altitude,
     start: [f64; 4],
-) -> Fit
+) -> Placed
     requires { ⌜ k ≤ 32 ⌝ }
-    ensures { λ r. ⌜ r ≡ levenbergMarquardt (chosen k (now (sites .entry)) (now (z .entry)) (now (l .entry)) altitude) start ⌝ }
+    ensures { λ r. ⌜ r ≡ placed (levenbergMarquardt (chosen k (now (sites .entry)) (now (z .entry)) (now (l .entry)) altitude) start) ⌝ }
 {
-    let first = whitening::evaluated(sites, z, k, l, altitude, start);
+    let at = whitening::place(altitude, start);
+    let first = whitening::evaluated(sites, z, k, l, altitude, start, at);
     let information = first.information;
     let gradient = first.gradient;
     let state = Lm {
@@ -113,5 +163,7 @@ pub fn levenberg_marquardt(
         cost: first.cost,
         lambda: LM_LAMBDA,
     };
-    run(state, sites, z, k, l, altitude)
+    let ended = run(state, at, sites, z, k, l, altitude);
+    let fit = ended.fit;
+    placed(fit, ended.place, altitude)
 }

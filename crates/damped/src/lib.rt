@@ -5,8 +5,9 @@ mod fitting;
 pub use fitting::levenberg_marquardt;
 ghost use mathlib.Core.Path.{_≡_};
 ghost use Prim.Native.Nat.{_≤_};
-ghost use Rattle.whitening.specs.Whitened.{chosen};
+ghost use Rattle.whitening.specs.Whitened.{chosen, placeOf};
 ghost use Rattle.damped.specs.Damped.{dampedTo, descent, moved, small, better, accepted, rejected, tried, step};
+use geo::Geodetic;
 use problem::Altitude;
 use whitening::Equations;
 
@@ -52,6 +53,12 @@ pub struct Stepped {
     pub verdict: Verdict,
 }
 
+// What a step gives, and the place of the altitude's row at its parameters.
+pub struct SteppedAt {
+    pub stepped: Stepped,
+    pub place: Geodetic,
+}
+
 // A solution of the normal equations, and zeros where the Cholesky fails.
 struct Solved {
     ok: bool,
@@ -65,6 +72,12 @@ pub struct Fit {
     pub cost: f64,
     // `(Jᵀ J)` of the whitened problem at `params`.
     pub information: [f64; 16],
+}
+
+// A fit and its place: zeros beside `None`.
+pub struct Placed {
+    pub fit: Fit,
+    pub place: Geodetic,
 }
 
 // The information with lambda times its diagonal added.
@@ -177,6 +190,7 @@ fn rejected(mut state: Lm) -> Stepped
 // they cost more than the state, its row is spared, and the slopes where all rows do.
 fn tried(
     state: Lm,
+    place: Geodetic,
     x: [f64; 4],
     candidate: [f64; 4],
     sites: &[f64; 96],
@@ -184,40 +198,49 @@ fn tried(
     k: usize,
     l: &[f64; 1024],
     altitude: Altitude,
-) -> Stepped
-    requires { ⌜ k ≤ 32 ⌝ }
-    ensures { λ r. ⌜ r ≡ tried (chosen k (now (sites .entry)) (now (z .entry)) (now (l .entry)) altitude) state x candidate ⌝ }
+) -> SteppedAt
+    requires { ⌜ (k ≤ 32) × (place ≡ placeOf altitude (state .params)) ⌝ }
+    ensures { λ r. ⌜ r .stepped ≡ tried (chosen k (now (sites .entry)) (now (z .entry)) (now (l .entry)) altitude) state x candidate ⌝ }
+    ensures { λ r. ⌜ r .place ≡ placeOf altitude (r .stepped .state .params) ⌝ }
 {
     let cost = state.cost;
     let mut r = [0.0; 33];
     let mut ranges = [0.0; 32];
     let part = whitening::residuals(sites, z, k, l, candidate, &mut r, &mut ranges);
     if cost < part {
-        return rejected(state);
+        let stepped = rejected(state);
+        return SteppedAt { stepped, place };
     }
-    let place = whitening::place(altitude, candidate);
+    let there = whitening::place(altitude, candidate);
     if better(
-        whitening::push_height(altitude, place, k, part, &mut r),
+        whitening::push_height(altitude, there, k, part, &mut r),
         cost,
     ) {
-        let next = whitening::completed(sites, k, l, altitude, candidate, place, &ranges, &r);
-        return accepted(state.lambda, x, candidate, next);
+        let next = whitening::completed(sites, k, l, altitude, candidate, there, &ranges, &r);
+        let stepped = accepted(state.lambda, x, candidate, next);
+        return SteppedAt {
+            stepped,
+            place: there,
+        };
     }
-    rejected(state)
+    let stepped = rejected(state);
+    SteppedAt { stepped, place }
 }
 
 impl Lm {
-    // One damped step: a turn of the loop of `levenberg_marquardt`.
+    // One damped step from a state of this place: a turn of the loop of `levenberg_marquardt`.
     pub fn step(
         self,
+        place: Geodetic,
         sites: &[f64; 96],
         z: &[f64; 32],
         k: usize,
         l: &[f64; 1024],
         altitude: Altitude,
-    ) -> Stepped
-        requires { ⌜ k ≤ 32 ⌝ }
-        ensures { λ r. ⌜ r ≡ step (chosen k (now (sites .entry)) (now (z .entry)) (now (l .entry)) altitude) self ⌝ }
+    ) -> SteppedAt
+        requires { ⌜ (k ≤ 32) × (place ≡ placeOf altitude (self .params)) ⌝ }
+        ensures { λ r. ⌜ r .stepped ≡ step (chosen k (now (sites .entry)) (now (z .entry)) (now (l .entry)) altitude) self ⌝ }
+        ensures { λ r. ⌜ r .place ≡ placeOf altitude (r .stepped .state .params) ⌝ }
     {
         let params = self.params;
         let information = self.information;
@@ -227,11 +250,12 @@ impl Lm {
         if found.ok {
             let x = found.x;
             let candidate = moved(params, x);
-            return tried(self, x, candidate, sites, z, k, l, altitude);
+            return tried(self, place, x, candidate, sites, z, k, l, altitude);
         }
-        Stepped {
+        let stepped = Stepped {
             state: self,
             verdict: Verdict::Failed,
-        }
+        };
+        SteppedAt { stepped, place }
     }
 }

@@ -4,6 +4,7 @@ use mathlib.Core.Option.{Option}
 use mathlib.Core.Bool.{Bool, true, false, cond}
 use mathlib.Core.List.{List}
 use Prim.Native.Nat.{ℕ, _^_, _≤_, _<_}
+use lib.Dec.{T}
 use lib.IntN.{ℤ}
 use lib.Ieee.{Float}
 use borrow.Author.Tests.{lt-ltb, le-ltb}
@@ -11,11 +12,14 @@ use Rattle.dense.specs.Entries.{nth}
 use Rattle.sets.specs.Sets.{Subset, count}
 use Rattle.sets.specs.Mask.{has}
 use Rattle.sets.proofs.Masks.{count-within}
-use Rattle.problem.specs.Problem.{minimum}
+use Rattle.geo.specs.Geo.{fromEcef}
+use Rattle.problem.specs.Problem.{position, minimum}
 use Rattle.damped.specs.declared.Fit.{Fit}
 use Rattle.best.specs.declared.Unfit.{Unfit}
 use Rattle.best.specs.declared.Best.{Best}
+use Rattle.best.specs.declared.BestAt.{BestAt}
 use Rattle.best.specs.Best.{Outcome, fails, gives, asBest}
+use Rattle.best.specs.Held.{asBestAt}
 use Rattle.best.specs.OfProblem.{Receptions, bestFitOver}
 use Rattle.record.specs.declared.content.Fix.{Fix}
 use Rattle.rounds.specs.declared.answer.Refusal.the-variants.{TooFew}
@@ -32,6 +36,11 @@ told b = cond (b .found) (gives (b .fit)) (fails (b .why))
 told-as : (o : Outcome Unfit Fit) → told (asBest o) ≡ o
 told-as (fails e) = refl
 told-as (gives f) = refl
+
+-- beside a fit that is found stands its place
+pub best-place : (o : Outcome Unfit Fit) (b : BestAt) → b ≡ asBestAt o → b .best .found ≡ true → b .place ≡ fromEcef (position (b .best .fit .params))
+best-place (fails e) b h t = absurd (subst T (sym t ∙ ap (λ (x : BestAt). x .best .found) h) tt)
+best-place (gives f) b h t = ap (λ (x : BestAt). x .place) h ∙ ap (λ (x : BestAt). fromEcef (position (x .best .fit .params))) (sym h)
 
 module _ (R : Receptions) (K : ℕ) (reference : ℤ) (N : R .n ≤ 32) (mask : ℕ) (M : mask < 2 ^ R .n) (p : Option (List Float)) (c : ℕ) (C : c ≡ count (has mask) 32) where
   abbrev P : Setting (List Float) Fit Fix

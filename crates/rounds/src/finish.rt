@@ -4,11 +4,14 @@ ghost use Rattle.dense.specs.Factor.{verdict, cholesky};
 ghost use Rattle.dense.specs.Inverse.{inverse};
 ghost use lib.ListN.{replicate};
 ghost use Rattle.binary64.specs.Steps.{nought};
+ghost use Rattle.geo.specs.Geo.{fromEcef};
+ghost use Rattle.problem.specs.Problem.{position};
 ghost use Rattle.limits.specs.Local.{published};
 ghost use Rattle.best.specs.Best.{fails};
 ghost use Rattle.rounds.specs.Finish.{wide, certain, fixOf, finish, nothing, asFinished};
 use crate::moment::transmit;
 use damped::Fit;
+use geo::Geodetic;
 use record::Fix;
 
 // The most a published fix's standard deviation may be along any axis, metres: of solve.rs.
@@ -39,7 +42,7 @@ pub fn nothing() -> Fix
         dof: 0,
         ecef: [0.0; 3],
         t: 0.0,
-        position: geo::Geodetic {
+        position: Geodetic {
             lat_deg: 0.0,
             lon_deg: 0.0,
             height_m: 0.0,
@@ -113,12 +116,12 @@ fn covariance(l: &[f64; 16]) -> [[f64; 3]; 3]
     limits::published(&m)
 }
 
-fn fix_of(mask: u32, dof: u32, fit: Fit, c: [[f64; 3]; 3], transmit_ps: i64) -> Fix
+fn fix_of(mask: u32, dof: u32, fit: Fit, place: Geodetic, c: [[f64; 3]; 3], transmit_ps: i64) -> Fix
+    requires { ⌜ place ≡ fromEcef (position (fit .params)) ⌝ }
     ensures { λ r. ⌜ r ≡ fixOf mask dof fit c «transmit_ps» ⌝ }
 {
     let params = fit.params;
     let ecef = [params[0], params[1], params[2]];
-    let position = geo::from_ecef(ecef);
     let r0 = c[0];
     let r1 = c[1];
     let r2 = c[2];
@@ -127,7 +130,7 @@ fn fix_of(mask: u32, dof: u32, fit: Fit, c: [[f64; 3]; 3], transmit_ps: i64) -> 
         dof,
         ecef,
         t: params[3],
-        position,
+        position: place,
         transmit_ps,
         r0,
         r1,
@@ -136,8 +139,10 @@ fn fix_of(mask: u32, dof: u32, fit: Fit, c: [[f64; 3]; 3], transmit_ps: i64) -> 
     }
 }
 
-// The fix of the receptions in the mask, with so many degrees of freedom, or why it is not published.
-pub fn finish(mask: u32, dof: u32, reference_ps: i64, fit: Fit) -> Finished
+// The fix of the receptions in the mask, with so many degrees of freedom and at this place, or why it is not
+// published.
+pub fn finish(mask: u32, dof: u32, reference_ps: i64, fit: Fit, place: Geodetic) -> Finished
+    requires { ⌜ place ≡ fromEcef (position (fit .params)) ⌝ }
     ensures { λ r. ⌜ r ≡ asFinished (finish mask dof «reference_ps» fit) ⌝ }
 {
     let information = fit.information;
@@ -148,7 +153,7 @@ pub fn finish(mask: u32, dof: u32, reference_ps: i64, fit: Fit) -> Finished
         if certain(c) {
             let time = transmit(reference_ps, params[3]);
             if time.held {
-                let fix = fix_of(mask, dof, fit, c, time.ps);
+                let fix = fix_of(mask, dof, fit, place, c, time.ps);
                 return Finished {
                     published: true,
                     why: Unpublished::OutOfRange,

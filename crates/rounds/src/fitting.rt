@@ -2,10 +2,10 @@
 ghost use mathlib.Core.Path.{_≡_};
 ghost use Prim.Native.Nat.{_≤_};
 ghost use Rattle.sets.specs.Mask.{has};
-ghost use Rattle.best.specs.Best.{asBest};
+ghost use Rattle.best.specs.Held.{asBestAt};
 ghost use Rattle.best.specs.OfProblem.{receptions, bestFitOver};
 ghost use Rattle.rounds.specs.Solve.{gathered, before};
-use best::Best;
+use best::BestAt;
 use problem::Altitude;
 
 // The included receptions, and the parameters that the round before found if it `had` any.
@@ -42,7 +42,7 @@ pub fn subset(site: &[f64; 96], z: &[f64; 32], n: usize, included: u32) -> Gathe
     }
 }
 
-// Their best fit, where the parameters of the round before lead the starts.
+// Their best fit and its place, where the parameters of the round before lead the starts.
 pub fn fit_included(
     site: &[f64; 96],
     z: &[f64; 32],
@@ -51,9 +51,9 @@ pub fn fit_included(
     n: usize,
     altitude: Altitude,
     state: State,
-) -> Best
+) -> BestAt
     requires { ⌜ n ≤ 32 ⌝ }
-    ensures { λ r. ⌜ r ≡ asBest (bestFitOver (receptions (now (site .entry)) (now (z .entry)) (now (noise .entry)) (now (clock .entry)) n altitude) (has (state .included)) (before state)) ⌝ }
+    ensures { λ r. ⌜ r ≡ asBestAt (bestFitOver (receptions (now (site .entry)) (now (z .entry)) (now (noise .entry)) (now (clock .entry)) n altitude) (has (state .included)) (before state)) ⌝ }
 {
     let included = state.included;
     let had = state.had;

@@ -77,6 +77,7 @@ fn outlier_rounds(
         let step = round(site, z, noise, clock, n, altitude, kept, state);
         let turn = step.turn;
         let fit = step.fit;
+        let place = step.place;
         let used = state.included;
         match turn {
             Turn::Ends(why) => {
@@ -88,7 +89,18 @@ fn outlier_rounds(
                 continue;
             }
             Turn::Settles => {
-                let end = settled(site, z, noise, clock, n, altitude, reference, used, fit);
+                let end = settled(
+                    site,
+                    z,
+                    noise,
+                    clock,
+                    n,
+                    altitude,
+                    reference,
+                    used,
+                    fit,
+                    place,
+                );
                 return of_finished(end);
             }
         }

@@ -3,10 +3,13 @@ ghost use mathlib.Core.Path.{_≡_};
 ghost use Prim.Native.Nat.{ℕ, _≤_, _<_, _^_};
 ghost use lib.IntN.{ℤ};
 ghost use Rattle.sets.specs.Mask.{has};
+ghost use Rattle.geo.specs.Geo.{fromEcef};
+ghost use Rattle.problem.specs.Problem.{position};
 ghost use Rattle.damped.specs.Damped.{unfitted};
+ghost use Rattle.damped.specs.Placed.{nowhere};
 ghost use Rattle.best.specs.OfProblem.{receptions};
 ghost use Rattle.rounds.specs.Rounds as rounds;
-ghost use Rattle.rounds.specs.declared.outliers.Turn.the-variants.{Ends, Changes};
+ghost use Rattle.rounds.specs.declared.outliers.Turn.the-variants.{Ends, Changes, Settles};
 ghost use Rattle.rounds.specs.Solve.{before, settingOf, stepOf};
 use crate::Refusal;
 use crate::answer::of_unfit;
@@ -16,17 +19,19 @@ use crate::outliers::Turn;
 use crate::outliers::decided;
 use crate::outliers::residuals;
 use damped::Fit;
+use geo::Geodetic;
 use problem::Altitude;
 
-// What a round comes to, and its best fit: zeros where it has none.
+// What a round comes to, its best fit and the fit's place: zeros where it has none.
 pub struct Step {
     pub turn: Turn,
     pub fit: Fit,
+    pub place: Geodetic,
 }
 
 // A round that a refusal ends before there is a best fit.
 fn ended(why: Refusal) -> Step
-    ensures { λ r. ⌜ r ≡ record { turn = Ends why; fit = unfitted } ⌝ }
+    ensures { λ r. ⌜ r ≡ record { turn = Ends why; fit = unfitted; place = nowhere } ⌝ }
 {
     let params = [0.0; 4];
     let information = [0.0; 16];
@@ -37,6 +42,11 @@ fn ended(why: Refusal) -> Step
             params,
             cost: 0.0,
             information,
+        },
+        place: Geodetic {
+            lat_deg: 0.0,
+            lon_deg: 0.0,
+            height_m: 0.0,
         },
     }
 }
@@ -54,19 +64,22 @@ pub fn round(
 ) -> Step
     requires { ⌜ (n ≤ 32) × (state .included < 2 ^ n) ⌝ }
     ensures { λ r. ⌜ ((reference : ℤ) → stepOf (r .turn) (r .fit) ≡ rounds.round (settingOf (receptions (now (site .entry)) (now (z .entry)) (now (noise .entry)) (now (clock .entry)) n altitude) (has kept) reference) (has (state .included)) (before state)) × ((m : ℕ) → r .turn ≡ Changes m → m < 2 ^ n) ⌝ }
+    ensures { λ r. ⌜ (r .turn ≡ Settles → r .place ≡ fromEcef (position (r .fit .params))) ⌝ }
 {
     let included = state.included;
     let count = sets::count(included);
     if count < problem::minimum(altitude) {
         return ended(Refusal::TooFew(count));
     }
-    let best = fit_included(site, z, noise, clock, n, altitude, state);
+    let at = fit_included(site, z, noise, clock, n, altitude, state);
+    let best = at.best;
     if best.found {
         let fit = best.fit;
         let params = fit.params;
-        let at = residuals(site, z, noise, clock, n, params);
-        let turn = decided(kept, included, &at, n);
-        return Step { turn, fit };
+        let left = residuals(site, z, noise, clock, n, params);
+        let turn = decided(kept, included, &left, n);
+        let place = at.place;
+        return Step { turn, fit, place };
     }
     let why = best.why;
     ended(of_unfit(why))

@@ -3,6 +3,8 @@ ghost use mathlib.Core.Path.{_≡_};
 ghost use Prim.Native.Nat.{_-_, _≤_, _<_, _^_};
 ghost use Rattle.sets.specs.Sets.{count};
 ghost use Rattle.sets.specs.Mask.{has};
+ghost use Rattle.geo.specs.Geo.{fromEcef};
+ghost use Rattle.problem.specs.Problem.{position};
 ghost use Rattle.whitening.specs.Whitened.{chosen};
 ghost use Rattle.limits.specs.Limits as limits;
 ghost use Rattle.rounds.specs.Finish.{asFinished};
@@ -14,6 +16,7 @@ use crate::finish::finish;
 use crate::finish::withheld;
 use crate::fitting::subset;
 use damped::Fit;
+use geo::Geodetic;
 use linalg::Cholesky;
 use problem::Altitude;
 
@@ -47,7 +50,7 @@ fn dof(used: u32, altitude: Altitude) -> u32
     less_four(count)
 }
 
-// What chi-square may reach at the parameters.
+// What chi-square may reach at the parameters, whose place is known.
 fn limit(
     sites: &[f64; 96],
     z: &[f64; 32],
@@ -55,11 +58,13 @@ fn limit(
     l: &[f64; 1024],
     altitude: Altitude,
     params: [f64; 4],
+    place: Geodetic,
     dof: u32,
 ) -> f64
-    requires { ⌜ k ≤ 32 ⌝ }
+    requires { ⌜ (k ≤ 32) × (place ≡ fromEcef (position params)) ⌝ }
     ensures { λ x. ⌜ x ≡ limitAt (chosen k (now (sites .entry)) (now (z .entry)) (now (l .entry)) altitude) dof params ⌝ }
 {
+    let row = whitening::row_place(altitude, place);
     let mut r = [0.0; 33];
     let mut a = [0.0; 33];
     let mut b = [0.0; 33];
@@ -72,6 +77,7 @@ fn limit(
         l,
         altitude,
         params,
+        row,
         &mut r,
         &mut a,
         &mut b,
@@ -81,7 +87,7 @@ fn limit(
     limits::published_chi2_limit(dof, limits::rounding_norm(&a, &b, &c, &d, rows))
 }
 
-// The fix of the fit at which the rounds settled, or why it is not published.
+// The fix of the fit at which the rounds settled, whose place is known, or why it is not published.
 pub fn settled(
     site: &[f64; 96],
     z: &[f64; 32],
@@ -92,8 +98,9 @@ pub fn settled(
     reference_ps: i64,
     included: u32,
     fit: Fit,
+    place: Geodetic,
 ) -> Finished
-    requires { ⌜ (n ≤ 32) × (included < 2 ^ n) ⌝ }
+    requires { ⌜ (n ≤ 32) × (included < 2 ^ n) × (place ≡ fromEcef (position (fit .params))) ⌝ }
     ensures { λ r. ⌜ r ≡ asFinished (later (receptions (now (site .entry)) (now (z .entry)) (now (noise .entry)) (now (clock .entry)) n altitude) «reference_ps» (has included) fit) ⌝ }
 {
     let used = subset(site, z, n, included);
@@ -108,10 +115,10 @@ pub fn settled(
     if whitening::whitener(clock, n, noise, &index, k, &mut factor.l) {
         let dof = dof(included, altitude);
         let params = fit.params;
-        if fit.cost > limit(&sites, &times, k, &factor.l, altitude, params, dof) {
+        if fit.cost > limit(&sites, &times, k, &factor.l, altitude, params, place, dof) {
             return withheld(Unpublished::Inconsistent);
         }
-        return finish(included, dof, reference_ps, fit);
+        return finish(included, dof, reference_ps, fit, place);
     }
     withheld(Unpublished::Singular)
 }

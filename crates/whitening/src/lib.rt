@@ -10,6 +10,7 @@ pub use rows::place;
 pub use rows::push_height;
 pub use rows::residual;
 pub use rows::residuals;
+pub use rows::row_place;
 pub use rows::whitened;
 pub use sums::completed;
 pub use sums::evaluated;

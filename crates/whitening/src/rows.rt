@@ -4,9 +4,12 @@ ghost use mathlib.Core.Path.{_≡_};
 ghost use Prim.Native.Nat.{_+_, _≤_, _<_};
 ghost use lib.ListN.{length, replicate, set};
 ghost use Rattle.dense.specs.Solve.{forward};
-ghost use mathlib.Core.List.{[]};
+ghost use mathlib.Core.List.{List, []};
+ghost use lib.Ieee.{Float};
 ghost use Rattle.binary64.specs.Root.{root};
 ghost use Rattle.binary64.specs.Steps.{nought};
+ghost use Rattle.geo.specs.Geo.{fromEcef};
+ghost use Rattle.problem.specs.Problem.{position};
 ghost use Rattle.whitening.specs.Whitened.{rangeAt, residual, fillTo, raw, rangesTo, placeOf, pushAltitude, blank, chosen, rows, whitened};
 ghost use Rattle.whitening.specs.Normal.{costTo};
 use crate::slopes::slopes;
@@ -125,6 +128,21 @@ pub fn place(altitude: Altitude, p: [f64; 4]) -> Geodetic
     }
 }
 
+// The same, where the place of p is known.
+pub fn row_place(altitude: Altitude, place: Geodetic) -> Geodetic
+    ensures { λ g. ⌜ ((p : List Float) → place ≡ fromEcef (position p) → g ≡ placeOf altitude p) ⌝ }
+{
+    match altitude {
+        Altitude::None => Geodetic {
+            lat_deg: 0.0,
+            lon_deg: 0.0,
+            height_m: 0.0,
+        },
+        Altitude::Barometric(metres) => place,
+        Altitude::Gnss(metres) => place,
+    }
+}
+
 // A residual after k others: gives the cost of all.
 fn put_residual(value: f64, k: usize, cost: f64, r: &mut [f64; 33]) -> f64
     requires { ⌜ (k ≤ 32) × (k < length (now r)) × (cost ≡ costTo (now r) k) ⌝ }
@@ -157,8 +175,8 @@ pub fn push_height(
     }
 }
 
-// The whitened rows of k receptions at the parameters p, the altitude's last, into arrays of zeros:
-// gives how many rows there are.
+// The whitened rows of k receptions at the parameters p, the altitude's last, into arrays of zeros, where
+// the altitude's place is known: gives how many rows there are.
 pub fn whitened(
     sites: &[f64; 96],
     z: &[f64; 32],
@@ -166,28 +184,28 @@ pub fn whitened(
     l: &[f64; 1024],
     altitude: Altitude,
     p: [f64; 4],
+    geodetic: Geodetic,
     r: &mut [f64; 33],
     a: &mut [f64; 33],
     b: &mut [f64; 33],
     c: &mut [f64; 33],
     d: &mut [f64; 33],
 ) -> usize
-    requires { ⌜ k ≤ 32 ⌝ }
+    requires { ⌜ (k ≤ 32) × (geodetic ≡ placeOf altitude p) ⌝ }
     requires { ⌜ (now r ≡ blank) × (now a ≡ blank) × (now b ≡ blank) × (now c ≡ blank) × (now d ≡ blank) ⌝ }
     ensures { λ m. ⌜ m ≤ 33 ⌝ }
     ensures { λ m. ⌜ rows m (now (r .exit)) (now (a .exit)) (now (b .exit)) (now (c .exit)) (now (d .exit)) ≡ whitened (chosen k (now (sites .entry)) (now (z .entry)) (now (l .entry)) altitude) p ⌝ }
 {
     let mut ranges = [0.0; 32];
     let part = residuals(sites, z, k, l, p, &mut *r, &mut ranges);
-    let position = place(altitude, p);
-    let cost = push_height(altitude, position, k, part, &mut *r);
+    let cost = push_height(altitude, geodetic, k, part, &mut *r);
     slopes(
         sites,
         k,
         l,
         altitude,
         p,
-        position,
+        geodetic,
         &ranges,
         &mut *a,
         &mut *b,

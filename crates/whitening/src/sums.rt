@@ -6,7 +6,6 @@ ghost use lib.Ieee.{Float};
 ghost use Rattle.whitening.specs.Whitened.{rangesTo, placeOf, chosen, rows, whitened, beside};
 ghost use Rattle.whitening.specs.Normal.{plusProducts, plusMultiple, normal, evaluated};
 use crate::Equations;
-use crate::rows::place;
 use crate::rows::push_height;
 use crate::rows::residuals;
 use crate::slopes::slopes;
@@ -121,7 +120,8 @@ pub fn completed(
     normal(r, &a, &b, &c, &d, count)
 }
 
-// The normal equations of k receptions and the altitude at the parameters p.
+// The normal equations of k receptions and the altitude at the parameters p, where the altitude's place
+// is known.
 pub fn evaluated(
     sites: &[f64; 96],
     z: &[f64; 32],
@@ -129,14 +129,14 @@ pub fn evaluated(
     l: &[f64; 1024],
     altitude: Altitude,
     p: [f64; 4],
+    geodetic: Geodetic,
 ) -> Equations
-    requires { ⌜ k ≤ 32 ⌝ }
+    requires { ⌜ (k ≤ 32) × (geodetic ≡ placeOf altitude p) ⌝ }
     ensures { λ e. ⌜ e ≡ evaluated (chosen k (now (sites .entry)) (now (z .entry)) (now (l .entry)) altitude) p ⌝ }
 {
     let mut r = [0.0; 33];
     let mut ranges = [0.0; 32];
     let part = residuals(sites, z, k, l, p, &mut r, &mut ranges);
-    let position = place(altitude, p);
-    let cost = push_height(altitude, position, k, part, &mut r);
-    completed(sites, k, l, altitude, p, position, &ranges, &r)
+    let cost = push_height(altitude, geodetic, k, part, &mut r);
+    completed(sites, k, l, altitude, p, geodetic, &ranges, &r)
 }

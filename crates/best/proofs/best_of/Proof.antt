@@ -7,23 +7,22 @@ use Prim.Native.Nat.{_≤_, _-_}
 use native.Mathlib.Omega.{arith}
 use lib.Dec.{leb}
 use lib.ListN.{take}
-use lib.Seq.{getD-take}
 use lib.Ieee.{le}
 use Rattle.sets.specs.Mask.{has}
 use Rattle.damped.specs.declared.Fit.{Fit}
-use Rattle.best.specs.Best.{fitAt}
-use Rattle.best.proofs.Passes.{nothing, Top, top-start, top-taken, top-left}
+use Rattle.best.specs.Held.{fitsOf, placedAt}
+use Rattle.best.proofs.Passes.{fit-front, Top, top-start, top-taken, top-left}
 use Rattle.best.proofs.best_of.Statement.{statement}
 use Rattle.best.proofs.best_of.Tie as tie
 
 abbrev Inv-loop : tie.InvT-loop
-Inv-loop mask count fits top₀ least₀ i₀ top least i = (i ≤ count) × Top (has mask) (take count fits) i top least
+Inv-loop mask count fits top₀ least₀ i₀ top least i = (i ≤ count) × Top (has mask) (take count (fitsOf fits)) i top least
 
 abbrev μ-loop : tie.MeasureT-loop
 μ-loop mask count fits top₀ least₀ i₀ top least i = count - i
 
 loop-holds : tie.Need-loop-holds Inv-loop μ-loop
-loop-holds c = (search needs, top-start (has (c .args .mask)) (take (c .args .count) (c .args .t1)) _)
+loop-holds c = (search needs, top-start (has (c .args .mask)) (take (c .args .count) (fitsOf (c .args .t1))) _)
 
 mul-cost : tie.Need-mul-cost Inv-loop μ-loop
 mul-cost c = search needs
@@ -48,9 +47,9 @@ loop-again c =
     let s = c .before .before .before .before .before .args in
     let at = c .before .before .before .before .loop in
     let S = has (s .mask) in
-    let fs = take (s .count) (s .t1) in
-    let cost = fitAt (s .t1) (at .i) .cost in
-    let same = ap (λ (f : Fit). f .cost) (sym (getD-take (s .count) (s .t1) (at .i) nothing (omega arith))) in
+    let fs = take (s .count) (fitsOf (s .t1)) in
+    let cost = placedAt (s .t1) (at .i) .fit .cost in
+    let same = ap (λ (f : Fit). f .cost) (fit-front (s .t1) (s .count) (at .i) (omega arith)) in
     let test = c .before .replaces in
     let told = test .ensures ∙ ap (λ (b : Bool). b && (leb 32 (at .top) || not (le (at .least) cost))) (c .before .before .has .ensures) in (
       omega arith,

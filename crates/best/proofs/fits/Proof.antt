@@ -1,4 +1,4 @@
--- `best::fits` meets its contract. The invariant: the first i places hold the fits from the first i starts, and the others none. A turn stores one more (`fits-turn`). Assumes nothing.
+-- `best::fits` meets its contract. The invariant: the first i places hold the fits from the first i starts beside their places, and the others none. A turn stores one more (`fits-turn`). Assumes nothing.
 use borrow.Author.Needs.{needs}
 use mathlib.Core.Path.{_≡_, ap, _∙_}
 use mathlib.Core.List.{List}
@@ -7,25 +7,26 @@ use native.Mathlib.Omega.{arith}
 use lib.ListN.{set, replicate}
 use lib.Ieee.{Float}
 use Rattle.whitening.specs.Whitened.{chosen}
-use Rattle.damped.specs.declared.Fit.{Fit}
+use Rattle.damped.specs.declared.Placed.{Placed}
 use Rattle.damped.specs.Damped.{levenbergMarquardt}
+use Rattle.damped.specs.Placed.{placed}
 use Rattle.best.specs.Best.{pointsTo}
 use Rattle.best.proofs.Passes.{fitsTo, fits-turn}
 use Rattle.best.proofs.fits.Statement.{statement}
 use Rattle.best.proofs.fits.Tie as tie
 
 abbrev Inv-loop : tie.InvT-loop
-Inv-loop sites z k l altitude at count fits₀ i₀ fits i = (i ≤ count) × (fits ≡ fitsTo (levenbergMarquardt (chosen k sites z l altitude)) at i)
+Inv-loop sites z k l altitude at count fits₀ i₀ fits i = (i ≤ count) × (fits ≡ fitsTo (λ p. placed (levenbergMarquardt (chosen k sites z l altitude) p)) at i)
 
 abbrev μ-loop : tie.MeasureT-loop
 μ-loop sites z k l altitude at count fits₀ i₀ fits i = count - i
 
-no-fit-requires : tie.Need-no-fit-requires Inv-loop μ-loop
-no-fit-requires c κs = search needs
+no-placed-requires : tie.Need-no-placed-requires Inv-loop μ-loop
+no-placed-requires c κs = search needs
 
 loop-holds : tie.Need-loop-holds Inv-loop μ-loop
 unfolding pointsTo
-loop-holds c = (search needs, ap (replicate 18) (c .no-fit .ensures))
+loop-holds c = (search needs, ap (replicate 18) (c .no-placed .ensures))
 
 point-requires : tie.Need-point-requires Inv-loop μ-loop
 point-requires c κs = search needs
@@ -50,9 +51,9 @@ loop-again c =
     let s = c .before .before .before .before .before .args in
     let at = c .before .before .before .loop in
     let fit = c .levenberg-marquardt in
-    let f : List Float → Fit = levenbergMarquardt (chosen (s .k) (s .sites .now) (s .z .now) (s .l .now) (s .altitude)) in (
+    let f : List Float → Placed = λ p. placed (levenbergMarquardt (chosen (s .k) (s .sites .now) (s .z .now) (s .l .now) (s .altitude)) p) in (
       omega arith,
-      ap (λ (fs : List Fit). set fs (at .i) (fit .result)) (at .inv .1) ∙ fits-turn f (s .at .now) (at .i) (fit .result) (omega arith) (fit .ensures ∙ ap f (c .before .point .ensures)),
+      ap (λ (fs : List Placed). set fs (at .i) (fit .result)) (at .inv .1) ∙ fits-turn f (s .at .now) (at .i) (fit .result) (omega arith) (fit .ensures ∙ ap f (c .before .point .ensures)),
     )
 
 returns : tie.Need-returns Inv-loop μ-loop
@@ -65,7 +66,7 @@ fits-spec =
     (tie.spec
     Inv-loop
     μ-loop
-    no-fit-requires
+    no-placed-requires
     loop-holds
     point-requires
     levenberg-marquardt-requires

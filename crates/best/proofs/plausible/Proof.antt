@@ -13,20 +13,17 @@ use Rattle.best.specs.Plausible.{nearTo, plausible}
 use Rattle.best.proofs.plausible.Statement.{statement}
 use Rattle.best.proofs.plausible.Tie as tie
 
-array-read-t9 : tie.Need-array-read-t9
-array-read-t9 c = search needs
-
-array-read-t12 : tie.Need-array-read-t12
-array-read-t12 c = search needs
-
-array-read-t15 : tie.Need-array-read-t15
-array-read-t15 c = search needs
-
-from-ecef-requires : tie.Need-from-ecef-requires
-from-ecef-requires c κs = search needs
-
 flying-requires : tie.Need-flying-requires
 flying-requires c κs = search needs
+
+array-read-t10 : tie.Need-array-read-t10
+array-read-t10 c = search needs
+
+array-read-t13 : tie.Need-array-read-t13
+array-read-t13 c = search needs
+
+array-read-t16 : tie.Need-array-read-t16
+array-read-t16 c = search needs
 
 all-near-requires : tie.Need-all-near-requires
 all-near-requires c κs = search needs
@@ -38,20 +35,19 @@ unfolding plausible
 by-parts sites p k place height near = near ∙ rw (height, place)
 
 returns : tie.Need-returns
-returns c = by-parts _ _ _ (c .before .before .before .from-ecef .ensures) (c .before .before .flying .ensures) (rw (c .before .if1 .taken) (c .all-near .ensures))
+returns c = by-parts _ _ _ (c .before .before .before .pre .1) (c .before .before .flying .ensures) (rw (c .before .if1 .taken) (c .all-near .ensures))
 
 returns-2 : tie.Need-returns-2
-returns-2 c = by-parts _ _ _ (c .before .before .from-ecef .ensures) (c .before .flying .ensures) (rw (c .if1 .left))
+returns-2 c = by-parts _ _ _ (c .before .before .pre .1) (c .before .flying .ensures) (rw (c .if1 .left))
 
 pub plausible-spec : {M : Type 1} → statement M
 plausible-spec =
     tie.close
     (tie.spec
-    array-read-t9
-    array-read-t12
-    array-read-t15
-    from-ecef-requires
     flying-requires
+    array-read-t10
+    array-read-t13
+    array-read-t16
     all-near-requires
     returns
     returns-2)

@@ -6,19 +6,19 @@ use Prim.Native.Nat.{ℕ, _≤_, _-_}
 use native.Mathlib.Omega.{arith}
 use lib.Dec.{ltb}
 use lib.ListN.{take}
-use lib.Seq.{getD-take}
 use lib.Ieee.{Float, lt}
 use Rattle.binary64.specs.Steps.{_⊕_, decimal}
 use Rattle.sets.specs.Sets as sets
 use Rattle.sets.specs.Mask.{has}
 use Rattle.damped.specs.declared.Fit.{Fit}
 use Rattle.best.specs.Best.{distance, explainsAlike, fitAt}
-use Rattle.best.proofs.Passes.{nothing, any-next}
+use Rattle.best.specs.Held.{fitsOf}
+use Rattle.best.proofs.Passes.{fit-front, any-next}
 use Rattle.best.proofs.rivalled.Statement.{statement}
 use Rattle.best.proofs.rivalled.Tie as tie
 
 abbrev Inv-loop : tie.InvT-loop
-Inv-loop mask best count fits limit so-far₀ i₀ so-far i = (i ≤ count) × (so-far ≡ ltb 0 (sets.count (λ j. has mask j && explainsAlike best (fitAt (take count fits) j)) i))
+Inv-loop mask best count fits limit so-far₀ i₀ so-far i = (i ≤ count) × (so-far ≡ ltb 0 (sets.count (λ j. has mask j && explainsAlike best (fitAt (take count (fitsOf fits)) j)) i))
 
 abbrev μ-loop : tie.MeasureT-loop
 μ-loop mask best count fits limit so-far₀ i₀ so-far i = count - i
@@ -30,11 +30,11 @@ loop-holds : tie.Need-loop-holds Inv-loop μ-loop
 unfolding sets.count
 loop-holds c = (search needs, refl)
 
-mul-other : tie.Need-mul-other Inv-loop μ-loop
-mul-other c = search needs
+mul-at : tie.Need-mul-at Inv-loop μ-loop
+mul-at c = search needs
 
-array-copy-out-other : tie.Need-array-copy-out-other Inv-loop μ-loop
-array-copy-out-other c = search needs
+array-copy-out-at : tie.Need-array-copy-out-at Inv-loop μ-loop
+array-copy-out-at c = search needs
 
 has-requires : tie.Need-has-requires Inv-loop μ-loop
 has-requires c κs = search needs
@@ -56,17 +56,17 @@ loop-less c = search needs
 
 loop-again : tie.Need-loop-again Inv-loop μ-loop
 loop-again c =
-    let s = c .before .before .before .before .before .before .before .before .args in
-    let at = c .before .before .before .before .before .before .loop in
-    let fs = take (s .count) (s .t1) in
-    let same = sym (getD-take (s .count) (s .t1) (at .i) nothing (omega arith)) in
-    let rivalry = c .before .before .rival .ensures ∙ ap₂ (λ (f : Fit) (limit : Float). not (lt (s .best .cost ⊕ decimal 9 0) (f .cost)) && lt limit (distance (s .best) f)) same (c .before .before .before .before .before .before .before .chi2-limit .ensures) in
+    let s = c .before .before .before .before .before .before .before .before .before .args in
+    let at = c .before .before .before .before .before .before .before .loop in
+    let fs = take (s .count) (fitsOf (s .t1)) in
+    let same = fit-front (s .t1) (s .count) (at .i) (omega arith) in
+    let rivalry = c .before .before .rival .ensures ∙ ap₂ (λ (f : Fit) (limit : Float). not (lt (s .best .cost ⊕ decimal 9 0) (f .cost)) && lt limit (distance (s .best) f)) same (c .before .before .before .before .before .before .before .before .chi2-limit .ensures) in
     (omega arith, any-next (λ j. has (s .mask) j && explainsAlike (s .best) (fitAt fs j)) (at .i) _ _ _ (at .inv .1) (c .before .both .ensures ∙ ap₂ (λ (a b : Bool). a && b) (c .before .before .before .has .ensures) rivalry) (c .either .ensures))
 
 returns : tie.Need-returns Inv-loop μ-loop
 returns c =
     let s = c .before .before .before .args in
-    let fs = take (s .count) (s .t1) in
+    let fs = take (s .count) (fitsOf (s .t1)) in
     let e : c .before .loop .i ≡ s .count = omega arith in
     c .before .loop .inv .1 ∙ ap (λ (m : ℕ). ltb 0 (sets.count (λ j. has (s .mask) j && explainsAlike (s .best) (fitAt fs j)) m)) e
 
@@ -78,8 +78,8 @@ rivalled-spec =
     μ-loop
     chi2-limit-requires
     loop-holds
-    mul-other
-    array-copy-out-other
+    mul-at
+    array-copy-out-at
     has-requires
     rival-requires
     both-requires

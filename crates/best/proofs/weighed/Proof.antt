@@ -8,18 +8,19 @@ use lib.ListN.{take}
 use Rattle.sets.specs.Sets.{Subset, joined}
 use Rattle.sets.specs.Mask.{has}
 use Rattle.best.specs.Best.{fitAt, weighed}
-use Rattle.best.proofs.Passes.{mask-start, mask-joins, mask-stays}
+use Rattle.best.specs.Held.{fitsOf}
+use Rattle.best.proofs.Passes.{fit-at, mask-start, mask-joins, mask-stays}
 use Rattle.best.proofs.weighed.Statement.{statement}
 use Rattle.best.proofs.weighed.Tie as tie
 
 abbrev Inv-loop : tie.InvT-loop
-Inv-loop sites k count fits mask₀ i₀ mask i = (i ≤ count) × (has mask ≡ (λ (j : ℕ). weighed sites k (fitAt (take i fits) j)))
+Inv-loop sites k count fits mask₀ i₀ mask i = (i ≤ count) × (has mask ≡ (λ (j : ℕ). weighed sites k (fitAt (take i (fitsOf fits)) j)))
 
 abbrev μ-loop : tie.MeasureT-loop
 μ-loop sites k count fits mask₀ i₀ mask i = count - i
 
 loop-holds : tie.Need-loop-holds Inv-loop μ-loop
-loop-holds c = (search needs, mask-start (weighed (c .args .sites .now) (c .args .k)) refl (c .args .t3))
+loop-holds c = (search needs, mask-start (weighed (c .args .sites .now) (c .args .k)) refl (fitsOf (c .args .t3)))
 
 mul-fit : tie.Need-mul-fit Inv-loop μ-loop
 mul-fit c = search needs
@@ -28,7 +29,7 @@ array-copy-out-fit : tie.Need-array-copy-out-fit Inv-loop μ-loop
 array-copy-out-fit c = search needs
 
 weigh-requires : tie.Need-weigh-requires Inv-loop μ-loop
-weigh-requires c κs = search needs
+weigh-requires c κs = let s = c .before .before .before in (s .pre .0, s .pre .2 (c .before .before .loop .i) (omega arith))
 
 joined-requires : tie.Need-joined-requires Inv-loop μ-loop
 joined-requires c κs = search needs
@@ -44,11 +45,12 @@ loop-again c =
     let s = c .before .before .before .before .before .args in
     let at = c .before .before .before .before .loop in
     let test = c .before .weigh in
-    let p = weighed (s .sites .now) (s .k) in (
+    let p = weighed (s .sites .now) (s .k) in
+    let told = ap p (fit-at (s .t3) (at .i)) ∙ sym (test .ensures) in (
       omega arith,
       ⊎-elim
-          (λ w. rw (w .2) (w .1 .ensures .0 ∙ ap (λ (S : Subset). joined S (at .i)) (at .inv .1) ∙ mask-joins p refl (s .t3) (at .i) (sym (test .ensures) ∙ w .0 .taken)))
-          (λ w. rw (w .1) (at .inv .1 ∙ mask-stays p refl (s .t3) (at .i) (sym (test .ensures) ∙ w .0 .left)))
+          (λ w. rw (w .2) (w .1 .ensures .0 ∙ ap (λ (S : Subset). joined S (at .i)) (at .inv .1) ∙ mask-joins p refl (fitsOf (s .t3)) (at .i) (told ∙ w .0 .taken)))
+          (λ w. rw (w .1) (at .inv .1 ∙ mask-stays p refl (fitsOf (s .t3)) (at .i) (told ∙ w .0 .left)))
           (c .if1 .came),
     )
 

@@ -50,10 +50,10 @@ refused-requires c κs = search needs
 
 returns : tie.Need-returns Inv-loop μ-loop
 returns c =
-    let s = c .before .before .before .before .before .before .before .before .before .before in
-    let at = c .before .before .before .before .before .before .before .loop in
-    let made = c .before .before .before .before .before .round in
-    c .refused .ensures ∙ ap asAnswer (left-ends (heard s) (s .args .kept) (s .args .reference) (s .pre .0) (at .k) (2 * c .before .before .before .before .before .before .before .before .before .count .result + 2) (at .state) (made .result .turn) (made .result .fit) (made .ensures .0 (s .args .reference)) (c .before .before .before .before .before .before .loop-test .taken) (at .inv .2 (s .args .reference) (s .pre .0)) _ (c .before .before .turn .given .1))
+    let s = c .before .before .before .before .before .before .before .before .before .before .before in
+    let at = c .before .before .before .before .before .before .before .before .loop in
+    let made = c .before .before .before .before .before .before .round in
+    c .refused .ensures ∙ ap asAnswer (left-ends (heard s) (s .args .kept) (s .args .reference) (s .pre .0) (at .k) (2 * c .before .before .before .before .before .before .before .before .before .before .count .result + 2) (at .state) (made .result .turn) (made .result .fit) (made .ensures .0 .0 (s .args .reference)) (c .before .before .before .before .before .before .before .loop-test .taken) (at .inv .2 (s .args .reference) (s .pre .0)) _ (c .before .before .turn .given .1))
 
 enum-known-turn-2 : tie.Need-enum-known-turn-2 Inv-loop μ-loop
 enum-known-turn-2 c = search needs
@@ -62,39 +62,39 @@ changed-requires : tie.Need-changed-requires Inv-loop μ-loop
 changed-requires c κs = search needs
 
 add-k : tie.Need-add-k Inv-loop μ-loop
-add-k c = omega (arith, c .before .before .before .before .before .before .before .before .before .count .ensures, count-le (has (c .before .before .before .before .before .before .before .before .before .before .args .kept)) 32)
+add-k c = omega (arith, c .before .before .before .before .before .before .before .before .before .before .count .ensures, count-le (has (c .before .before .before .before .before .before .before .before .before .before .before .args .kept)) 32)
 
 loop-less : tie.Need-loop-less Inv-loop μ-loop
 loop-less c = search needs
 
 loop-again : tie.Need-loop-again Inv-loop μ-loop
 loop-again c =
-    let s = c .before .before .before .before .before .before .before .before .before .before in
-    let at = c .before .before .before .before .before .before .before .loop in
-    let made = c .before .before .before .before .before .round in
+    let s = c .before .before .before .before .before .before .before .before .before .before .before in
+    let at = c .before .before .before .before .before .before .before .before .loop in
+    let made = c .before .before .before .before .before .before .round in
     let is = c .before .before .turn2 .given .1 in
     let next = c .changed in (
-      omega arith,
-      subst (λ (u : State). u .included < 2 ^ s .args .n) (sym (next .ensures)) (made .ensures .1 _ is),
-      λ ref l. left-changes (heard s) (s .args .kept) ref l (at .k) (2 * c .before .before .before .before .before .before .before .before .before .count .result + 2) (at .state) (made .result .turn) (made .result .fit) (made .ensures .0 ref) (c .before .before .before .before .before .before .loop-test .taken) (at .inv .2 ref l) _ is (next .result) (next .ensures),
+      omega (arith, c .before .before .before .before .before .before .before .loop-test .taken),
+      subst (λ (u : State). u .included < 2 ^ s .args .n) (sym (next .ensures)) (made .ensures .0 .1 _ is),
+      λ ref l. left-changes (heard s) (s .args .kept) ref l (at .k) (2 * c .before .before .before .before .before .before .before .before .before .before .count .result + 2) (at .state) (made .result .turn) (made .result .fit) (made .ensures .0 .0 ref) (c .before .before .before .before .before .before .before .loop-test .taken) (at .inv .2 ref l) _ is (next .result) (next .ensures),
     )
 
 enum-told : tie.Need-enum-told Inv-loop μ-loop
 enum-told c = search needs
 
 settled-requires : tie.Need-settled-requires Inv-loop μ-loop
-settled-requires c κs = (c .before .before .before .before .before .before .before .before .pre .0, c .before .before .before .before .before .loop .inv .1)
+settled-requires c κs = (c .before .before .before .before .before .before .before .before .before .pre .0, c .before .before .before .before .before .before .loop .inv .1, c .before .before .before .before .round .ensures .1 (c .enum-told .given .1))
 
 of-finished-requires : tie.Need-of-finished-requires Inv-loop μ-loop
 of-finished-requires c κs = search needs
 
 returns-2 : tie.Need-returns-2 Inv-loop μ-loop
 returns-2 c =
-    let s = c .before .before .before .before .before .before .before .before .before .before in
-    let at = c .before .before .before .before .before .before .before .loop in
-    let made = c .before .before .before .before .before .round in
+    let s = c .before .before .before .before .before .before .before .before .before .before .before in
+    let at = c .before .before .before .before .before .before .before .before .loop in
+    let made = c .before .before .before .before .before .before .round in
     c .of-finished .ensures (later (heard s) (s .args .reference) (has (at .state .included)) (made .result .fit)) (rw (toZ-ofZ w64 (s .args .reference) (s .fits .reference)) at (c .before .settled .ensures))
-    ∙ ap asAnswer (left-settles (heard s) (s .args .kept) (s .args .reference) (s .pre .0) (at .k) (2 * c .before .before .before .before .before .before .before .before .before .count .result + 2) (at .state) (made .result .turn) (made .result .fit) (made .ensures .0 (s .args .reference)) (c .before .before .before .before .before .before .loop-test .taken) (at .inv .2 (s .args .reference) (s .pre .0)) (c .before .before .enum-told .given .1))
+    ∙ ap asAnswer (left-settles (heard s) (s .args .kept) (s .args .reference) (s .pre .0) (at .k) (2 * c .before .before .before .before .before .before .before .before .before .before .count .result + 2) (at .state) (made .result .turn) (made .result .fit) (made .ensures .0 .0 (s .args .reference)) (c .before .before .before .before .before .before .before .loop-test .taken) (at .inv .2 (s .args .reference) (s .pre .0)) (c .before .before .enum-told .given .1))
 
 no-fixed-point-requires : tie.Need-no-fixed-point-requires Inv-loop μ-loop
 no-fixed-point-requires c κs = search needs

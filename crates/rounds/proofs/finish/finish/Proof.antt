@@ -26,7 +26,7 @@ transmit-requires : tie.Need-transmit-requires
 transmit-requires c κs = search needs
 
 fix-of-requires : tie.Need-fix-of-requires
-fix-of-requires c κs = search needs
+fix-of-requires c κs = c .before .before .before .before .before .before .before .before .before .before .before .before .before .pre
 
 returns : tie.Need-returns
 returns c =

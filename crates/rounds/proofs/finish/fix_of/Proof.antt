@@ -1,4 +1,4 @@
--- `rounds::finish::fix_of` meets its contract: the fields one by one, with the position by `from_ecef`. Assumes nothing.
+-- `rounds::finish::fix_of` meets its contract: the fields one by one, with the position that it is given. Assumes nothing.
 use borrow.Author.Needs.{needs}
 use mir.Syntax.{w64}
 use mir.ValLaws.{toZ-ofZ}
@@ -14,9 +14,6 @@ array-read-t18 c = search needs
 array-read-t21 : tie.Need-array-read-t21
 array-read-t21 c = search needs
 
-from-ecef-requires : tie.Need-from-ecef-requires
-from-ecef-requires c κs = search needs
-
 array-copy-out-r0 : tie.Need-array-copy-out-r0
 array-copy-out-r0 c = search needs
 
@@ -30,7 +27,7 @@ array-read-t15-2 : tie.Need-array-read-t15-2
 array-read-t15-2 c = search needs
 
 returns : tie.Need-returns
-returns c = rw (c .before .before .before .from-ecef .ensures, toZ-ofZ w64 (c .before .before .before .before .before .args .transmit-ps) (c .before .before .before .before .before .fits .transmit-ps))
+returns c = let s = c .before .before .before .before in rw (s .pre, toZ-ofZ w64 (s .args .transmit-ps) (s .fits .transmit-ps))
 
 pub fix-of-spec : {M : Type 1} → statement M
 fix-of-spec =
@@ -39,7 +36,6 @@ fix-of-spec =
     array-read-t15
     array-read-t18
     array-read-t21
-    from-ecef-requires
     array-copy-out-r0
     array-copy-out-r1
     array-copy-out-r2

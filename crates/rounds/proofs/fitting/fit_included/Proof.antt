@@ -2,7 +2,7 @@
 use borrow.Author.Needs.{needs}
 use mathlib.Core.Path.{ap, _∙_}
 use Rattle.sets.specs.Mask.{has}
-use Rattle.best.specs.Best.{asBest}
+use Rattle.best.specs.Held.{asBestAt}
 use Rattle.best.specs.OfProblem.{Receptions, receptions}
 use Rattle.rounds.proofs.Gathering.{subset-fits}
 use Rattle.rounds.proofs.Points.{starts-few, fit-is}
@@ -32,7 +32,7 @@ returns : tie.Need-returns
 returns c =
     let s = c .before .before .before .before .before .before .before .before .before .before .before .before .before .before in
     let g = c .before .before .before .before .before .before .before .before .before .before .before .before .subset in
-    c .best-fit .ensures ∙ ap asBest (fit-is (heard s) (has (s .args .state .included)) (s .args .state .had) (s .args .state .previous) (g .result) (g .ensures) (c .before .before .before .before .before .before .starts .result) (c .before .before .before .before .before .before .starts .ensures))
+    c .best-fit .ensures ∙ ap asBestAt (fit-is (heard s) (has (s .args .state .included)) (s .args .state .had) (s .args .state .previous) (g .result) (g .ensures) (c .before .before .before .before .before .before .starts .result) (c .before .before .before .before .before .before .starts .ensures))
 
 pub fit-included-spec : {M : Type 1} → statement M
 fit-included-spec =

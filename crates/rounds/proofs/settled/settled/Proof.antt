@@ -30,7 +30,7 @@ limit-requires : tie.Need-limit-requires
 limit-requires c κs =
     let s = c .before .before .before .before .before .before .before .before .before .before .before .before .before .before in
     let subset = c .before .before .before .before .before .before .before .before .before .before .before .before .before .subset in
-    subset-fits (s .args .site .now) (s .args .z .now) (s .args .n) (has (s .args .included)) (subset .result) (subset .ensures) (s .pre .0) .0
+    (subset-fits (s .args .site .now) (s .args .z .now) (s .args .n) (has (s .args .included)) (subset .result) (subset .ensures) (s .pre .0) .0, s .pre .2)
 
 withheld-requires : tie.Need-withheld-requires
 withheld-requires c κs = search needs
@@ -43,7 +43,7 @@ returns c =
     c .withheld .ensures ∙ ap asFinished (late-inconsistent (heard s) (s .args .reference-ps) (s .args .included) (s .pre .1) (s .pre .0) (s .args .fit) (subset .result) (subset .ensures) _ (rw (c .before .before .before .before .before .before .before .before .before .before .if1 .taken) at (c .before .before .before .before .before .before .before .before .before .before .before .whitener .ensures)) (free .result) (free .ensures) (c .before .before .before .limit .result) (c .before .before .before .limit .ensures) (c .before .if2 .taken))
 
 finish-requires : tie.Need-finish-requires
-finish-requires c κs = search needs
+finish-requires c κs = c .before .before .before .before .before .before .before .before .before .before .before .before .before .before .before .before .before .pre .2
 
 returns-2 : tie.Need-returns-2
 returns-2 c =

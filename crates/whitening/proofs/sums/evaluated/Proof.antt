@@ -9,27 +9,23 @@ use Rattle.whitening.proofs.sums.evaluated.Tie as tie
 residuals-requires : tie.Need-residuals-requires
 residuals-requires c κs = search needs
 
-place-requires : tie.Need-place-requires
-place-requires c κs = search needs
-
 push-height-requires : tie.Need-push-height-requires
 push-height-requires c κs = search needs
 
 completed-requires : tie.Need-completed-requires
-completed-requires c κs = search needs
+completed-requires c κs = let s = c .before .before .before .before .before .before .before in (s .pre .0, (c .before .before .before .before .residuals .ensures .1 .0, s .pre .1))
 
 returns : tie.Need-returns
 returns c =
-    let at = c .before .before .before .before .before .before .before .before .before .args in
-    let P = chosen (at .k) (now (at .sites)) (now (at .z)) (now (at .l)) (at .altitude) in
-    completes P (at .p) _ _ (c .completed .ensures (now (at .z))) (residuals-joined P (at .p) _ (c .before .before .before .before .before .place .ensures) (c .before .before .before .before .before .before .residuals .ensures .0 .1) (c .before .before .before .push-height .ensures .0))
+    let s = c .before .before .before .before .before .before .before .before in
+    let P = chosen (s .args .k) (now (s .args .sites)) (now (s .args .z)) (now (s .args .l)) (s .args .altitude) in
+    completes P (s .args .p) _ _ (c .completed .ensures (now (s .args .z))) (residuals-joined P (s .args .p) _ (s .pre .1) (c .before .before .before .before .before .residuals .ensures .0 .1) (c .before .before .before .push-height .ensures .0))
 
 pub evaluated-spec : {M : Type 1} → statement M
 evaluated-spec =
     tie.close
     (tie.spec
     residuals-requires
-    place-requires
     push-height-requires
     completed-requires
     returns)
