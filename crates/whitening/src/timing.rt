@@ -27,7 +27,7 @@ fn shared(
     value
 }
 
-// Row a and column a, from the diagonal on.
+// Row a and column a, from the diagonal on, into the array of a `Matrix` of size k.
 fn covariance_row(
     clock: &[f64; 1024],
     n: usize,
@@ -39,16 +39,18 @@ fn covariance_row(
 )
     requires { ⌜ (n ≤ 32) × (k ≤ 32) × (a < k) ⌝ }
     requires { ⌜ ((i : ℕ) → i < k → pick (now index) i < n) ⌝ }
-    ensures { λ _. ⌜ now (sigma .exit) ≡ covarianceRowTo (now (clock .entry)) n (now (noise .entry)) (now (index .entry)) k a (now (sigma .entry)) (k - a) ⌝ }
+    ensures { λ _. ⌜ now (sigma .exit)
+        ≡ covarianceRowTo (now (clock .entry)) n (now (noise .entry)) (now (index .entry)) k a (now (sigma .entry))
+        (k - a) ⌝ }
 {
     for b in a..k {
         let value = shared(clock, n, noise, index, a, b);
-        sigma[a * k + b] = value;
-        sigma[b * k + a] = value;
+        Matrix::set(&mut *sigma, k, a, b, value);
+        Matrix::set(&mut *sigma, k, b, a, value);
     }
 }
 
-// The covariance, into the first k rows of k entries of `sigma`.
+// The covariance, into the array of a `Matrix` of size k.
 pub fn covariance(
     clock: &[f64; 1024],
     n: usize,
@@ -59,7 +61,8 @@ pub fn covariance(
 )
     requires { ⌜ (n ≤ 32) × (k ≤ 32) ⌝ }
     requires { ⌜ ((i : ℕ) → i < k → pick (now index) i < n) ⌝ }
-    ensures { λ _. ⌜ now (sigma .exit) ≡ covariance (now (clock .entry)) n (now (noise .entry)) (now (index .entry)) k (now (sigma .entry)) ⌝ }
+    ensures { λ _. ⌜ now (sigma .exit)
+        ≡ covariance (now (clock .entry)) n (now (noise .entry)) (now (index .entry)) k (now (sigma .entry)) ⌝ }
 {
     for a in 0..k {
         covariance_row(clock, n, noise, index, k, a, &mut *sigma);
@@ -75,7 +78,8 @@ pub fn sigma(clock: &[f64; 1024], n: usize, noise: &[f64; 32], i: usize) -> f64
     binary64::sqrt(shared + noise[i])
 }
 
-// The Cholesky factor of the covariance, into l; false where a pivot is refused.
+// The Cholesky factor of the covariance, into the array of a `Cholesky` of size k; false where a pivot is
+// refused.
 pub fn whitener(
     clock: &[f64; 1024],
     n: usize,
@@ -86,9 +90,10 @@ pub fn whitener(
 ) -> bool
     requires { ⌜ (n ≤ 32) × (k ≤ 32) ⌝ }
     requires { ⌜ ((i : ℕ) → i < k → pick (now index) i < n) ⌝ }
-    ensures { λ r. ⌜ verdict r (now (l .exit)) ≡ whitener (now (clock .entry)) n (now (noise .entry)) (now (index .entry)) k (now (l .entry)) ⌝ }
+    ensures { λ r. ⌜ verdict r (now (l .exit))
+        ≡ whitener (now (clock .entry)) n (now (noise .entry)) (now (index .entry)) k (now (l .entry)) ⌝ }
 {
     let mut sigma = Matrix::zeros(k);
-    covariance(clock, n, noise, index, k, &mut sigma.data);
-    Matrix::cholesky(&sigma.data, k, &mut *l)
+    covariance(clock, n, noise, index, sigma.n, &mut sigma.data);
+    Matrix::cholesky(&sigma.data, sigma.n, &mut *l)
 }

@@ -14,23 +14,6 @@ Inv-loop clock n noise index k a sigma₀ b₀ sigma b = (a ≤ b) × (b ≤ k) 
 abbrev μ-loop : tie.MeasureT-loop
 μ-loop clock n noise index k a sigma₀ b₀ sigma b = k - b
 
--- the two places of a turn lie in the matrix
-module _ (c : tie.In-loop Inv-loop μ-loop) where
-  abbrev k : ℕ
-  k = c .before .before .args .k
-
-  abbrev a : ℕ
-  a = c .before .before .args .a
-
-  abbrev b : ℕ
-  b = c .before .loop .b
-
-  right : a * k + b < 1024
-  right = omega (arith, place a b k (omega arith) (omega arith), room k (omega arith))
-
-  below : b * k + a < 1024
-  below = omega (arith, place b a k (omega arith) (omega arith), room k (omega arith))
-
 loop-holds : tie.Need-loop-holds Inv-loop μ-loop
 unfolding covarianceRowTo
 loop-holds c =
@@ -43,29 +26,11 @@ shared-requires c κs =
     let known = c .before .before .pre .1 in
     (omega arith, omega arith, omega arith, known (c .before .before .args .a) (omega arith), known (c .before .loop .b) (omega arith))
 
-mul-sigma : tie.Need-mul-sigma Inv-loop μ-loop
-mul-sigma c = omega (arith, right (c .before), below (c .before))
+set-requires : tie.Need-set-requires Inv-loop μ-loop
+set-requires c κs = (omega arith, omega arith, omega arith)
 
-add-sigma : tie.Need-add-sigma Inv-loop μ-loop
-add-sigma c = omega (arith, right (c .before), below (c .before))
-
-mul-sigma-2 : tie.Need-mul-sigma-2 Inv-loop μ-loop
-mul-sigma-2 c = omega (arith, right (c .before), below (c .before))
-
-element-write-sigma : tie.Need-element-write-sigma Inv-loop μ-loop
-element-write-sigma c = omega (arith, right (c .before), below (c .before))
-
-mul-sigma-3 : tie.Need-mul-sigma-3 Inv-loop μ-loop
-mul-sigma-3 c = omega (arith, right (c .before), below (c .before))
-
-add-sigma-2 : tie.Need-add-sigma-2 Inv-loop μ-loop
-add-sigma-2 c = omega (arith, right (c .before), below (c .before))
-
-mul-sigma-4 : tie.Need-mul-sigma-4 Inv-loop μ-loop
-mul-sigma-4 c = omega (arith, right (c .before), below (c .before))
-
-element-write-sigma-2 : tie.Need-element-write-sigma-2 Inv-loop μ-loop
-element-write-sigma-2 c = omega (arith, right (c .before), below (c .before))
+set-requires-2 : tie.Need-set-requires-2 Inv-loop μ-loop
+set-requires-2 c κs = (omega arith, omega arith, omega arith)
 
 add-b : tie.Need-add-b Inv-loop μ-loop
 add-b c = search needs
@@ -76,11 +41,13 @@ loop-less c = search needs
 loop-again : tie.Need-loop-again Inv-loop μ-loop
 unfolding covarianceRowTo
 loop-again c =
-    let a = c .before .before .before .args .a in
-    let b = c .before .before .loop .b in
+    let s = c .before .before .before .before in
+    let loop = s .before .before .loop in
+    let a = s .before .before .before .args .a in
+    let b = loop .b in
     let next : b + 1 - a ≡ suc (b - a) = omega arith in
     let at : a + (b - a) ≡ b = omega arith in
-    (omega arith, omega arith, rw (next, at, ← c .before .before .loop .inv .2, c .shared .ensures))
+    (omega arith, omega arith, rw (next, at, ← loop .inv .2, c .set2 .ensures, c .before .before .set .ensures, s .shared .ensures))
 
 returns : tie.Need-returns Inv-loop μ-loop
 returns c =
@@ -95,14 +62,8 @@ covariance-row-spec =
     μ-loop
     loop-holds
     shared-requires
-    mul-sigma
-    add-sigma
-    mul-sigma-2
-    element-write-sigma
-    mul-sigma-3
-    add-sigma-2
-    mul-sigma-4
-    element-write-sigma-2
+    set-requires
+    set-requires-2
     add-b
     loop-less
     loop-again
