@@ -37,6 +37,9 @@ usage() {
     exit 2
 }
 
+# every script takes it
+case ${1-} in --help | -h) helped ;; esac
+
 # absolute PATH: as seen from the folder that the script is called in.
 absolute() {
     case $1 in
