@@ -17,6 +17,23 @@
 extern "C" {
 #endif
 
+/* ---- version */
+
+/* The version of this header: three numbers, and all as one, which orders versions: MAJOR * 1,000,000 + MINOR * 1,000 +
+   PATCH. */
+#define MLAT_VERSION_MAJOR 0
+#define MLAT_VERSION_MINOR 3
+#define MLAT_VERSION_PATCH 0
+#define MLAT_VERSION (MLAT_VERSION_MAJOR * 1000000 + MLAT_VERSION_MINOR * 1000 + MLAT_VERSION_PATCH)
+
+/* The version of the library that is linked or loaded, in the form of MLAT_VERSION; 0.2.0 and before have no such
+   function. A library has all that this header has where its major version is the same and its number no less:
+       mlat_version() / 1000000 == MLAT_VERSION_MAJOR && mlat_version() >= MLAT_VERSION
+   The preprocessor takes MLAT_VERSION too: #if MLAT_VERSION >= 3000. */
+uint32_t mlat_version(void);
+
+/* ---- answers */
+
 /* What a call answers: 0, or why it gives nothing (docs/GUIDE.md says what to do about each). Document 01 has 1 to 15,
    document 02 16 to 24; the list is crates/refusals. */
 enum mlat_refusal {

@@ -1,7 +1,7 @@
 /* users FOLDER..: of each folder, solves its four files by the installed library and compares what it gives with
    record.bin there, byte for byte; then has the states told, and the record read, written, moved to the archive's form
-   and back and put on the wire. For tools/test_users; C and C++. What is lent is allocated to the byte, so that
-   AddressSanitizer and valgrind see an access beside it. */
+   and back and put on the wire. First the library has to be of the header's version. For tools/test_users; C and C++.
+   What is lent is allocated to the byte, so that AddressSanitizer and valgrind see an access beside it. */
 #include <mlat_solver.h>
 #include <stdio.h>
 #include <stdlib.h>
@@ -71,6 +71,7 @@ static void tried(const char *folder) {
 }
 
 int main(int count, char **words) {
+    if (mlat_version() != MLAT_VERSION) fail("mlat_version", "the library is not that of the header");
     for (int k = 1; k < count; k++) tried(words[k]);
     printf("%d folders\n", count - 1);
     return count < 2;

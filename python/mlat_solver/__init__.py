@@ -26,6 +26,7 @@ from .fixes import RECORD, Fix, Records, open_records, read, records, write
 from .refusal import Refusal
 from .solving import solve, solve_many, solve_many_records, solve_record
 from .states import State, why
+from .version import version
 from .wire import Wire, to_wire
 
 __all__ = [
@@ -34,5 +35,5 @@ __all__ = [
     "clash_patterns", "enu_basis", "enu_covariance", "forward_rows", "from_archive", "from_ecef", "from_mm",
     "horizontal_sigma_m", "inverse_diagonal", "inverse_triangular", "nearest", "open_records", "read", "read_asterix",
     "records", "sandwich", "solve", "solve_many", "solve_many_records", "solve_record", "to_archive", "to_asterix",
-    "to_ecef", "to_mm", "to_wire", "why", "within", "write", "write_asterix",
+    "to_ecef", "to_mm", "to_wire", "version", "why", "within", "write", "write_asterix",
 ]

@@ -23,7 +23,7 @@ from html.parser import HTMLParser
 
 import recordings
 from mlat_solver import Altitude, Files, Fix, ObservationId, Problem, Reception, Records, Refusal, open_records, records
-from mlat_solver import commands, drawing, page, solve, solve_record, why, write
+from mlat_solver import commands, drawing, page, solve, solve_record, version, why, write
 from mlat_solver import horizontal_sigma_m, solve_many, to_ecef
 from mlat_solver.library import LENT, library
 
@@ -47,6 +47,17 @@ def run(*words):
         except SystemExit as ended:
             status = ended.code
     return status, out.getvalue(), said.getvalue()
+
+
+class Version(unittest.TestCase):
+    """The library's version beside those of version.txt and of the header."""
+
+    def test_one_version(self):
+        told = (recordings.REPOSITORY / "version.txt").read_text().strip()
+        self.assertEqual(".".join(map(str, version())), told)
+        header = (recordings.REPOSITORY / "include" / "mlat_solver.h").read_text()
+        named = [re.search(rf"^#define MLAT_VERSION_{name} (\d+)$", header, re.M) for name in ("MAJOR", "MINOR", "PATCH")]
+        self.assertEqual(tuple(int(found[1]) for found in named), version())
 
 
 class Examples(unittest.TestCase):

@@ -8,7 +8,7 @@ fn main() -> Result<(), Box<dyn std::error::Error>> {
     for (place, record) in Records::new(&file)?.iter().enumerate() {
         match read(record) {
             Ok(Record::Fix(fix)) => {
-                let [latitude, longitude, height] = [fix.latitude_deg, fix.longitude_deg, fix.height_m];
+                let [latitude, longitude, height] = fix.position.into();
                 let sent = fix.transmit_ps;
                 println!("{place}: {latitude:.7}, {longitude:.7} degrees, {height:.1} m, sent {sent} ps");
             }

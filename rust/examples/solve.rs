@@ -54,7 +54,7 @@ fn main() -> ExitCode {
     match read(&record).and_then(Record::fix) {
         Ok(fix) => println!(
             "latitude {:.7}, longitude {:.7}, height {:.1} m, used {:08x}",
-            fix.latitude_deg, fix.longitude_deg, fix.height_m, fix.used
+            fix.position.lat_deg, fix.position.lon_deg, fix.position.height_m, fix.used
         ),
         Err(refusal) => {
             println!("refused: {}, {refusal}", refusal.number());

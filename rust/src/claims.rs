@@ -16,13 +16,9 @@ pub fn chi2_limit(dof: u32) -> f64 {
 }
 
 impl Fix {
-    fn place(&self) -> [f64; 3] {
-        [self.latitude_deg, self.longitude_deg, self.height_m]
-    }
-
     fn entries(&self) -> [f64; 9] {
         let mut entries = [0.0; 9];
-        entries.copy_from_slice(self.covariance_m2.as_flattened());
+        entries.copy_from_slice(self.covariance.as_flattened());
         entries
     }
 
@@ -30,13 +26,13 @@ impl Fix {
     pub fn enu_covariance(&self) -> [[f64; 3]; 3] {
         let mut enu = [0.0; 9];
         // SAFETY: the arrays are lent whole, and the call keeps none.
-        unsafe { mlat_enu_covariance(&self.place(), &self.entries(), &mut enu) };
+        unsafe { mlat_enu_covariance(&self.position.into(), &self.entries(), &mut enu) };
         rows(&enu)
     }
 
     /// One standard deviation of the horizontal position, metres: the root of half the trace of the east-north covariance.
     pub fn horizontal_sigma_m(&self) -> f64 {
         // SAFETY: the arrays are lent whole, and the call keeps none.
-        unsafe { mlat_horizontal_sigma_m(&self.place(), &self.entries()) }
+        unsafe { mlat_horizontal_sigma_m(&self.position.into(), &self.entries()) }
     }
 }

@@ -1,34 +1,32 @@
+use crate::geo::{Geodetic, Vec3};
 use crate::Altitude;
 
-/// A solved position.
+/// A solved position: `Solution` of the source, by its names. What was considered and used the source has as lists of
+/// identities, and a record as a number and a mask of places.
 #[derive(Clone, Copy, Debug, PartialEq)]
 pub struct Fix {
+    /// The version of the source's specification: 8.
+    pub spec: u16,
+    /// ECEF metres.
+    pub ecef: Vec3,
+    /// WGS 84.
+    pub position: Geodetic,
+    /// Transmit time, metres of light after the reference; the source does not show it.
+    pub t_m: f64,
+    /// Time of transmission on the timeline of the reference, picoseconds.
+    pub transmit_ps: i64,
+    /// Of the position, ECEF metres squared, rows in order.
+    pub covariance: [[f64; 3]; 3],
     /// Receptions considered.
     pub n: u32,
     /// Bit i is set where reception i, from 0, was used.
     pub used: u32,
-    /// Used receptions, plus one with an altitude, less 4.
-    pub dof: u32,
-    /// Metres.
-    pub ecef_m: [f64; 3],
-    /// Transmit time, metres of light after the reference.
-    pub t_m: f64,
-    /// Degrees, WGS 84, north above 0.
-    pub latitude_deg: f64,
-    /// Degrees, WGS 84, east above 0.
-    pub longitude_deg: f64,
-    /// Above WGS 84.
-    pub height_m: f64,
-    /// Time of transmission on the timeline of the reference, picoseconds.
-    pub transmit_ps: i64,
-    /// Of the position, ECEF, rows in order.
-    pub covariance_m2: [[f64; 3]; 3],
-    /// The squares of the residuals, each divided by its variance, added up.
-    pub chi2: f64,
-    /// Of the original's specification: 8.
-    pub version: u16,
     /// The altitude that was solved with, as it was given.
     pub altitude: Option<Altitude>,
+    /// The squares of the residuals, each divided by its variance, added up.
+    pub chi2: f64,
+    /// Used receptions, plus one with an altitude, less 4.
+    pub dof: u32,
 }
 
 impl Fix {

@@ -4,12 +4,12 @@
 //! use jifrosk::{Problem, Reception, Reported, solve};
 //!
 //! let mut receptions: Vec<Reception> = Vec::new();
-//! receptions.sort_by_key(|reception| reception.identity);
+//! receptions.sort_by_key(|reception| reception.id);
 //! let clock_m2 = vec![0.0; receptions.len() * receptions.len()];
 //! let altitude = Reported::Barometric { metres: 9_144.0, correction_cm: -350 };
 //! let problem = Problem { receptions: &receptions, clock_m2: Some(&clock_m2), altitude: Some(altitude), reference_ps: 0 };
 //! match solve(&problem) {
-//!     Ok(fix) => println!("{:.5} {:.5} {:.0} m", fix.latitude_deg, fix.longitude_deg, fix.height_m),
+//!     Ok(fix) => println!("{:.5} {:.5} {:.0} m", fix.position.lat_deg, fix.position.lon_deg, fix.position.height_m),
 //!     Err(refusal) => println!("{refusal}"),
 //! }
 //! ```
@@ -24,7 +24,7 @@
 //!     let file = std::fs::read("fixes.bin")?;
 //!     for record in Records::new(&file)? {
 //!         match read(record)? {
-//!             Record::Fix(fix) => println!("{:.5} {:.5}", fix.latitude_deg, fix.longitude_deg),
+//!             Record::Fix(fix) => println!("{:.5} {:.5}", fix.position.lat_deg, fix.position.lon_deg),
 //!             Record::Refused { refusal, n } => println!("{n} receptions: {refusal}"),
 //!         }
 //!     }
@@ -53,6 +53,7 @@ mod reception;
 mod record;
 mod records;
 mod refusal;
+mod version;
 mod why;
 mod wire;
 
@@ -67,8 +68,9 @@ pub use reception::{ObservationId, Reception, RECEPTION};
 pub use record::{read, write, Record};
 pub use records::{Iter, Records};
 pub use refusal::{Field, Refusal};
+pub use version::version;
 pub use why::{why, why_bytes, State, STATE, STATES};
-pub use wire::{to_wire, Position, Wire};
+pub use wire::{to_wire, Wire};
 
 /// The length of a record.
 pub const RECORD: usize = 176;

@@ -24,13 +24,13 @@ pub struct ObservationId {
 #[repr(C)]
 pub struct Reception {
     /// Above that of the reception before: sort by it.
-    pub identity: ObservationId,
+    pub id: ObservationId,
     /// When it arrived, 0 to 10^13.
     pub time_ps: i64,
     /// ECEF, each within ±10^10.
     pub site_mm: [i64; 3],
     /// Arrival in metres of light, 0 to 3·10^9.
-    pub z_m: f64,
+    pub z: f64,
     /// Variance of its own timing, 10^-6 to 10^12.
     pub noise_m2: f64,
     /// Zero, as in the file: any other value is refused.
@@ -45,7 +45,7 @@ impl Reception {
             epoch,
             timestamp,
             message,
-        } = &self.identity;
+        } = &self.id;
         let [x, y, z] = self.site_mm.map(i64::to_le_bytes);
         let all: [&[u8]; 11] = [
             receiver,
@@ -56,7 +56,7 @@ impl Reception {
             &x,
             &y,
             &z,
-            &self.z_m.to_le_bytes(),
+            &self.z.to_le_bytes(),
             &self.noise_m2.to_le_bytes(),
             &self.filler.to_le_bytes(),
         ];
@@ -68,7 +68,7 @@ impl Reception {
         let whole = |at: usize| i64::from_le_bytes(part(bytes, at));
         let float = |at: usize| f64::from_le_bytes(part(bytes, at));
         Self {
-            identity: ObservationId {
+            id: ObservationId {
                 receiver: part(bytes, 0),
                 epoch: u32::from_le_bytes(part(bytes, 32)),
                 timestamp: u64::from_le_bytes(part(bytes, 36)),
@@ -76,7 +76,7 @@ impl Reception {
             },
             time_ps: whole(76),
             site_mm: [whole(84), whole(92), whole(100)],
-            z_m: float(108),
+            z: float(108),
             noise_m2: float(116),
             filler: u64::from_le_bytes(part(bytes, 124)),
         }

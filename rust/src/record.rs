@@ -88,25 +88,23 @@ impl Held {
         if let Some(refusal) = Refusal::of(answer, detail) {
             return Record::Refused { refusal, n };
         }
-        let [x, y, z, t_m, latitude_deg, longitude_deg, height_m, .., chi2, metres] = self.numbers;
+        let [x, y, z, t_m, lat_deg, lon_deg, height_m, .., chi2, metres] = self.numbers;
         Record::Fix(Fix {
+            spec: version as u16,
+            ecef: [x, y, z],
+            position: [lat_deg, lon_deg, height_m].into(),
+            t_m,
+            transmit_ps: self.transmit_ps,
+            covariance: [0, 1, 2].map(|row| [0, 1, 2].map(|column| self.numbers[7 + 3 * row + column])),
             n,
             used,
-            dof: detail,
-            ecef_m: [x, y, z],
-            t_m,
-            latitude_deg,
-            longitude_deg,
-            height_m,
-            transmit_ps: self.transmit_ps,
-            covariance_m2: [0, 1, 2].map(|row| [0, 1, 2].map(|column| self.numbers[7 + 3 * row + column])),
-            chi2,
-            version: version as u16,
             altitude: match kind {
                 1 => Some(Altitude::Barometric(metres)),
                 2 => Some(Altitude::Gnss(metres)),
                 _ => None,
             },
+            chi2,
+            dof: detail,
         })
     }
 
@@ -128,12 +126,13 @@ impl Held {
             Some(Altitude::Gnss(metres)) => (2, metres),
         };
         let mut numbers = [0.0; 18];
-        numbers[..3].copy_from_slice(&fix.ecef_m);
-        numbers[3..7].copy_from_slice(&[fix.t_m, fix.latitude_deg, fix.longitude_deg, fix.height_m]);
-        numbers[7..16].copy_from_slice(fix.covariance_m2.as_flattened());
+        numbers[..3].copy_from_slice(&fix.ecef);
+        numbers[3] = fix.t_m;
+        numbers[4..7].copy_from_slice(&<[f64; 3]>::from(fix.position));
+        numbers[7..16].copy_from_slice(fix.covariance.as_flattened());
         numbers[16..].copy_from_slice(&[fix.chi2, metres]);
         Self {
-            words: [0, fix.dof, fix.n, fix.used, fix.version.into(), kind],
+            words: [0, fix.dof, fix.n, fix.used, fix.spec.into(), kind],
             numbers,
             transmit_ps: fix.transmit_ps,
         }

@@ -1,3 +1,4 @@
+use crate::geo::Geodetic;
 use crate::refusal::answered;
 use crate::{write, Fix, Record, Refusal, RECORD};
 
@@ -10,17 +11,6 @@ pub struct Wire {
     pub longitude_e7: i32,
     /// Millimetres above WGS 84, -1,500,000 to 25,000,000.
     pub height_mm: i32,
-}
-
-/// A position on WGS 84.
-#[derive(Clone, Copy, Debug, Default, PartialEq)]
-pub struct Position {
-    /// Degrees, north above 0.
-    pub latitude_deg: f64,
-    /// Degrees, east above 0.
-    pub longitude_deg: f64,
-    /// Metres above WGS 84.
-    pub height_m: f64,
 }
 
 extern "C" {
@@ -56,15 +46,10 @@ impl Fix {
 impl Wire {
     /// The position that these whole numbers stand for, by one division each; written again it gives the same numbers.
     /// [`Refusal::BeyondTheWire`] where one is beyond its limits.
-    pub fn position(&self) -> Result<Position, Refusal> {
+    pub fn position(&self) -> Result<Geodetic, Refusal> {
         let mut position = [0.0; 3];
         // SAFETY: both arrays are lent whole, and the call keeps neither.
         answered(unsafe { mlat_from_wire(&[self.latitude_e7, self.longitude_e7, self.height_mm], &mut position) })?;
-        let [latitude_deg, longitude_deg, height_m] = position;
-        Ok(Position {
-            latitude_deg,
-            longitude_deg,
-            height_m,
-        })
+        Ok(position.into())
     }
 }

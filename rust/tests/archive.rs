@@ -67,12 +67,12 @@ fn an_unequal_mirror_is_turned_away_and_minus_zero_is_not_zero() {
         });
     for fix in fixes {
         let mut zeros = fix;
-        (zeros.covariance_m2[0][1], zeros.covariance_m2[1][0]) = (0.0, -0.0);
+        (zeros.covariance[0][1], zeros.covariance[1][0]) = (0.0, -0.0);
         assert_eq!(Record::Fix(zeros).to_archive(), Err(Refusal::UnequalMirror));
-        zeros.covariance_m2[0][1] = -0.0;
+        zeros.covariance[0][1] = -0.0;
         assert!(Record::Fix(zeros).to_archive().is_ok());
         let mut infinite = fix;
-        infinite.covariance_m2[0][1] = f64::INFINITY;
+        infinite.covariance[0][1] = f64::INFINITY;
         assert_eq!(Record::Fix(infinite).to_archive(), Err(Refusal::MalformedRecord));
     }
     assert_eq!(Record::from_archive(&[0; 151]), Err(Refusal::TornFile));

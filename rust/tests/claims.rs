@@ -3,21 +3,19 @@
 use jifrosk::geo::{enu_basis, from_ecef, from_mm, to_ecef, to_mm, Geodetic};
 use jifrosk::{chi2_limit, Altitude, Fix};
 
-fn fix(covariance_m2: [[f64; 3]; 3]) -> Fix {
+fn fix(covariance: [[f64; 3]; 3]) -> Fix {
     Fix {
+        spec: 8,
+        ecef: [6_378_137.0, 0.0, 0.0],
+        position: Geodetic::default(),
+        t_m: 0.0,
+        transmit_ps: 0,
+        covariance,
         n: 4,
         used: 15,
-        dof: 0,
-        ecef_m: [6_378_137.0, 0.0, 0.0],
-        t_m: 0.0,
-        latitude_deg: 0.0,
-        longitude_deg: 0.0,
-        height_m: 0.0,
-        transmit_ps: 0,
-        covariance_m2,
-        chi2: 0.0,
-        version: 8,
         altitude: None::<Altitude>,
+        chi2: 0.0,
+        dof: 0,
     }
 }
 

@@ -6,8 +6,8 @@ use jifrosk::{solve_bytes, solve_receptions, ObservationId, Reception, RECORD};
 /// Whether the solve takes b after a, asked with a list of structs and with the bytes of a file. Two receptions are too
 /// few, which is found out after their order.
 fn ascend(a: ObservationId, b: ObservationId) -> bool {
-    let pair = [a, b].map(|identity| Reception {
-        identity,
+    let pair = [a, b].map(|id| Reception {
+        id,
         noise_m2: 1.0,
         ..Reception::default()
     });
@@ -53,7 +53,7 @@ impl Random {
 fn identity(bytes: [u8; 76]) -> ObservationId {
     let mut record = [0; 132];
     record[..76].copy_from_slice(&bytes);
-    Reception::from_bytes(&record).identity
+    Reception::from_bytes(&record).id
 }
 
 #[test]

@@ -65,7 +65,7 @@ fn fixes_of_solves_are_found() {
     let records = Records::new(&file).expect("whole records");
     let fixes: Vec<(u64, [f64; 3])> = (0..)
         .zip(records)
-        .filter_map(|(place, record)| Some((place, read(record).expect("a record of a solve").fix().ok()?.ecef_m)))
+        .filter_map(|(place, record)| Some((place, read(record).expect("a record of a solve").fix().ok()?.ecef)))
         .collect();
     assert!(fixes.len() > 10 && fixes.len() < records.len());
     for &(place, point) in &fixes {

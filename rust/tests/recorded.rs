@@ -75,12 +75,12 @@ fn a_reception_is_laid_out_as_in_c() {
         offset_of!(ObservationId, message),
         offset_of!(Reception, time_ps),
         offset_of!(Reception, site_mm),
-        offset_of!(Reception, z_m),
+        offset_of!(Reception, z),
         offset_of!(Reception, noise_m2),
         offset_of!(Reception, filler),
     ];
     assert_eq!(at, [0, 32, 40, 48, 80, 88, 112, 120, 128]);
-    assert_eq!(offset_of!(Reception, identity), 0);
+    assert_eq!(offset_of!(Reception, id), 0);
 }
 
 #[test]
@@ -174,7 +174,7 @@ fn a_fix_shows_the_metres_as_given() {
         },
         plain
     );
-    assert_ne!(fix(Altitude::Barometric(11_181.5).into()).height_m, plain.height_m);
+    assert_ne!(fix(Altitude::Barometric(11_181.5).into()).position, plain.position);
 }
 
 #[test]

@@ -105,15 +105,13 @@ fn held(value: &[u8]) -> Option<Record> {
         n,
         used,
         dof: detail,
-        ecef_m: [0, 1, 2].map(number),
+        ecef: [0, 1, 2].map(number),
         t_m: number(3),
-        latitude_deg: number(4),
-        longitude_deg: number(5),
-        height_m: number(6),
+        position: [4, 5, 6].map(number).into(),
         transmit_ps: long(168) as i64,
-        covariance_m2: [7, 10, 13].map(|k| [k, k + 1, k + 2].map(number)),
+        covariance: [7, 10, 13].map(|k| [k, k + 1, k + 2].map(number)),
         chi2: number(16),
-        version: version.try_into().ok()?,
+        spec: version.try_into().ok()?,
         altitude: match kind {
             0 if number(17).to_bits() == 0 => None,
             1 => Some(Altitude::Barometric(number(17))),
@@ -207,7 +205,7 @@ fn values_that_no_read_gives_are_not_written() {
         refused(Refusal::BadField(Field::ClockRow { row: 32 }), 0),
         refused(Refusal::BadField(Field::ClockRow { row: 100 }), 0),
         refused(Refusal::BadField(Field::ClockRow { row: u32::MAX - 99 }), 0),
-        Record::Fix(Fix { version: 7, ..fix }),
+        Record::Fix(Fix { spec: 7, ..fix }),
         Record::Fix(Fix {
             dof: fix.dof + 1,
             ..fix
@@ -218,7 +216,7 @@ fn values_that_no_read_gives_are_not_written() {
             ..fix
         }),
         Record::Fix(Fix {
-            height_m: f64::NAN,
+            position: [0.0, 0.0, f64::NAN].into(),
             ..fix
         }),
         Record::Fix(Fix {

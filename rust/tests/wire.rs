@@ -1,6 +1,7 @@
 //! Positions as whole numbers and back: the recorded calls of the oracle, document 02's own numbers, fixes of the solve.
 
-use jifrosk::{read, to_wire, Position, Record, Records, Refusal, Wire, RECORD};
+use jifrosk::geo::Geodetic;
+use jifrosk::{read, to_wire, Record, Records, Refusal, Wire, RECORD};
 
 /// crates/replay_wire/RECORDING.md has the form.
 const CALLS: &str = concat!(env!("CARGO_MANIFEST_DIR"), "/../crates/replay_wire/stdin");
@@ -22,18 +23,14 @@ fn wire_of(bytes: &[u8]) -> Wire {
     }
 }
 
-fn position_of(bytes: &[u8]) -> Position {
+fn position_of(bytes: &[u8]) -> Geodetic {
     let number = |k: usize| f64::from_le_bytes(bytes[8 * k..8 * k + 8].try_into().expect("eight bytes"));
-    Position {
-        latitude_deg: number(0),
-        longitude_deg: number(1),
-        height_m: number(2),
-    }
+    [0, 1, 2].map(number).into()
 }
 
 /// By the bits: -0 is not 0.
-fn bits(position: &Position) -> [u64; 3] {
-    [position.latitude_deg, position.longitude_deg, position.height_m].map(f64::to_bits)
+fn bits(position: &Geodetic) -> [u64; 3] {
+    <[f64; 3]>::from(*position).map(f64::to_bits)
 }
 
 #[test]
@@ -84,9 +81,7 @@ fn document_02s_numbers() {
         (90.0, 900_000_000),
     ] {
         let placed = jifrosk::Fix {
-            latitude_deg: degrees,
-            longitude_deg: -degrees,
-            height_m: -1_500.0,
+            position: [degrees, -degrees, -1_500.0].into(),
             ..fix()
         };
         let wire = Wire {
@@ -103,19 +98,17 @@ fn document_02s_numbers() {
 fn what_is_beyond_is_refused() {
     let beyond = Err(Refusal::BeyondTheWire);
     let next = |x: f64| f64::from_bits(x.to_bits() + 1);
-    for (latitude_deg, longitude_deg, height_m) in [
-        (next(90.0), 0.0, 0.0),
-        (next(-90.0), 0.0, 0.0),
-        (0.0, next(180.0), 0.0),
-        (0.0, next(-180.0), 0.0),
-        (0.0, 0.0, next(25_000.0)),
-        (0.0, 0.0, next(-1_500.0)),
+    for position in [
+        [next(90.0), 0.0, 0.0],
+        [next(-90.0), 0.0, 0.0],
+        [0.0, next(180.0), 0.0],
+        [0.0, next(-180.0), 0.0],
+        [0.0, 0.0, next(25_000.0)],
+        [0.0, 0.0, next(-1_500.0)],
     ] {
         assert_eq!(
             jifrosk::Fix {
-                latitude_deg,
-                longitude_deg,
-                height_m,
+                position: position.into(),
                 ..fix()
             }
             .to_wire(),
@@ -124,7 +117,7 @@ fn what_is_beyond_is_refused() {
     }
     assert_eq!(
         jifrosk::Fix {
-            latitude_deg: f64::NAN,
+            position: [f64::NAN, 0.0, 0.0].into(),
             ..fix()
         }
         .to_wire(),

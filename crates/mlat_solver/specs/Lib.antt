@@ -6,3 +6,4 @@ pub mod Display
 pub mod Positions
 pub mod Displays
 pub mod Solved
+pub mod Version
