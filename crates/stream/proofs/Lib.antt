@@ -1,0 +1,3 @@
+pub mod Solving
+pub mod Meaning
+pub mod Long
