@@ -8,10 +8,20 @@
 //
 // The file is read block by block, for the language has no heap: each block is whole records, but for the last of a
 // torn file, and what is found in a block is found by `near`.
+mod decimals;
+
+ghost use mathlib.Core.Path.{_≡_};
+ghost use mathlib.Core.Bool.{cond};
+ghost use lib.Dec.{eqb};
+ghost use Rattle.near.specs.Near.{nearestAnswer};
+ghost use Rattle.near.specs.Parts.{nearestIn, joined};
+use decimals::Number;
+use decimals::number_at;
 use geo::Geodetic;
 use libc::STDERR_FILENO;
 use libc::STDOUT_FILENO;
 use linalg::Vec3;
+use near::Held;
 
 // The bytes of a record, the records of a block, and its bytes.
 const SIZE: usize = 176;
@@ -22,25 +32,6 @@ const BLOCK: usize = 45056;
 
 // In place of a refusal, where a file cannot be read: no call gives it.
 const UNREAD: u32 = 255;
-
-// With fewer than this there is room for a digit more. A whole number of 15 digits is one that an f64 holds, and so is a
-// power of ten below that, so that their quotient is the f64 nearest to the decimal.
-const MOST: u64 = 100_000_000_000_000;
-
-// What is read of a decimal: `whole` / `scale`, if it is good. There was a digit where it has `some`.
-struct Digits {
-    good: bool,
-    some: bool,
-    point: bool,
-    whole: u64,
-    scale: u64,
-}
-
-// A number that was read, if it is good.
-struct Number {
-    good: bool,
-    value: f64,
-}
 
 // The nearest fix so far, its place and how far it is; and why the file is turned away, 0 where it is not.
 struct Best {
@@ -73,103 +64,6 @@ fn print(text: &[u8]) {
 
 fn print_number(number: u64) {
     io::print_decimal(STDOUT_FILENO, number);
-}
-
-// ---- numbers as people write them: digits with a point among them or none, a minus in front or none
-
-fn spoilt() -> Digits {
-    Digits {
-        good: false,
-        some: true,
-        point: true,
-        whole: 0,
-        scale: 1,
-    }
-}
-
-// The digits and a point.
-fn pointed(d: Digits) -> Digits {
-    if d.point {
-        return spoilt();
-    }
-    Digits {
-        good: d.good,
-        some: d.some,
-        point: true,
-        whole: d.whole,
-        scale: d.scale,
-    }
-}
-
-// The digits and one more byte.
-fn next(d: Digits, byte: u8) -> Digits {
-    if byte == b'.' {
-        return pointed(d);
-    }
-    if byte < b'0' {
-        return spoilt();
-    }
-    if byte > b'9' {
-        return spoilt();
-    }
-    if d.whole >= MOST {
-        return spoilt();
-    }
-    if d.scale >= MOST {
-        return spoilt();
-    }
-    let whole = 10 * d.whole + (byte - b'0') as u64;
-    let scale = if d.point { 10 * d.scale } else { d.scale };
-    Digits {
-        good: d.good,
-        some: true,
-        point: d.point,
-        whole,
-        scale,
-    }
-}
-
-// The digits of the text from byte `from` on.
-fn digits_from(text: &[u8], from: usize) -> Digits {
-    let mut d = Digits {
-        good: true,
-        some: false,
-        point: false,
-        whole: 0,
-        scale: 1,
-    };
-    for i in from..text.len() {
-        let more = next(d, text[i]);
-        d = more;
-    }
-    d
-}
-
-fn value(d: Digits, minus: bool) -> Number {
-    let size = std::num::nearest_u64_to_f64(d.whole) / std::num::nearest_u64_to_f64(d.scale);
-    let value = if minus { -size } else { size };
-    Number {
-        good: d.good && d.some,
-        value,
-    }
-}
-
-// The number that the text is; not good where it is none, or has over 15 digits.
-fn parsed(text: &[u8]) -> Number {
-    if text.len() == 0 {
-        return value(spoilt(), false);
-    }
-    if text[0] == b'-' {
-        return value(digits_from(text, 1), true);
-    }
-    value(digits_from(text, 0), false)
-}
-
-// The number that argument i is.
-fn number_at(i: usize) -> Number {
-    let mut text = [0u8; 64];
-    let n = os::arg(i, &mut text);
-    parsed(&text[..n])
 }
 
 // ---- distances
@@ -213,7 +107,9 @@ fn print_fix(place: u64, distance: f64) {
 // ---- what is turned away
 
 // A file that is torn is so by its last block, and that counts before any record.
-fn worse(before: u32, refusal: u32) -> u32 {
+fn worse(before: u32, refusal: u32) -> u32
+    ensures { λ r. ⌜ r ≡ cond (eqb refusal 0) before refusal ⌝ }
+{
     if refusal != 0 {
         return refusal;
     }
@@ -230,24 +126,32 @@ fn query_refusal(point: Vec3, radius: f64) -> u32 {
 
 // ---- the nearest
 
-// The nearest so far, once a block is searched whose first record is at place `base`: the earlier of two at a tie.
-fn with_block(block: &[u8], base: u64, point: Vec3, best: Best) -> Best {
-    let mut place = 0u64;
-    let refusal = worse(best.refusal, near::nearest(block, point, &mut place));
-    let d = distance(reader::record_at(block, place), point);
-    let none = reader::place_refusal(block, place) != 0;
-    if none || best.found && best.distance <= d {
-        return Best {
-            found: best.found,
-            place: best.place,
-            distance: best.distance,
-            refusal,
-        };
+// The fix that is held as `near` has it.
+fn held(best: Best) -> Held
+    ensures { λ r. ⌜ r ≡ record { found = best .found; place = best .place; distance = best .distance } ⌝ }
+{
+    Held {
+        found: best.found,
+        place: best.place,
+        distance: best.distance,
     }
+}
+
+// The nearest so far, once a block is searched whose first record is at place `base`: `near` joins the two.
+fn with_block(block: &[u8], base: u64, point: Vec3, best: Best) -> Best
+    ensures nearest { λ r. ⌜ record { found = r .found; place = r .place; distance = r .distance }
+        ≡ joined (record { found = best .found; place = best .place; distance = best .distance }) base
+        (nearestIn (now (block .entry)) point) ⌝ }
+    ensures refusal { λ r. ⌜ r .refusal
+        ≡ cond (eqb (nearestAnswer (now (block .entry)) point) 0) (best .refusal)
+        (nearestAnswer (now (block .entry)) point) ⌝ }
+{
+    let refusal = worse(best.refusal, near::nearest_refusal(block, point));
+    let next = near::join(held(best), base, near::nearest_in(block, point));
     Best {
-        found: true,
-        place: std::num::wrapping_add_u64(base, place),
-        distance: d,
+        found: next.found,
+        place: next.place,
+        distance: next.distance,
         refusal,
     }
 }

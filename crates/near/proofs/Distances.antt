@@ -11,9 +11,9 @@ use Rattle.binary64.specs.Steps.{_⊖_, _⊗_, isFinite}
 use Rattle.binary64.specs.Root.{root, rootUnits, floorRoot}
 use Rattle.binary64.proofs.Order.{is-finite}
 use Rattle.binary64.proofs.Numbers.{finite-num, sub-num}
+use Rattle.binary64.proofs.Clear.{clear, add-clear, square-clear}
 use Rattle.dense.specs.Entries.{nth}
 use Rattle.linalg.specs.Vec3 as vec3
-use Rattle.damped.proofs.Squares.{clear, add-clear, square-clear}
 use Rattle.near.specs.Meaning.{DistanceIsNumber, DistanceMayBeInfinite}
 
 abbrev pub Num : Float → Type 0

@@ -17,7 +17,7 @@ use Rattle.sets.specs.Choice.{IsChoice, FirstBest, Ranks}
 use Rattle.sets.proofs.Tests.{either, T→eq, eq→T, neither-below}
 use Rattle.sets.proofs.Choosing.{choose-is}
 use Rattle.words.specs.Words.{f64At, u64At, wordAt}
-use Rattle.damped.proofs.Order.{lt-asym, lt-split, le-of-not-lt, le-lt}
+use Rattle.binary64.proofs.Less.{lt-asym, lt-split, le-of-not-lt, le-lt}
 use Rattle.reader.specs.Rules.{answerAt}
 use Rattle.reader.specs.Read.{recordAt, threeAt}
 use Rattle.reader.proofs.Meaning.{accepted}
@@ -59,7 +59,7 @@ module _ (file : List ℕ) (s : Sound file) where
       go (inr l) = subst (λ r. (i : ℕ) → i < 3 → isFinite (nth (threeAt r 16) i) ≡ true) (past-end k (nltb→le k (records file) l)) no-bytes
 
   module _ (point : List Float) (g : GoodPoint point) where
-    number : (k : ℕ) → T (fixes file k) → Num (distanceAt file point k)
+    pub number : (k : ℕ) → T (fixes file k) → Num (distanceAt file point k)
     unfolding distance
     number k t = distance-is-number (threeAt (recordAt file k) 16) point (ecef-finite k t) (λ i h. g i h .finite)
 

@@ -131,9 +131,13 @@ placeAfter file point found = cond (eqb (nearestAnswer file point) 0) (placeOf (
 
 -- ---- how the code finds it
 
+-- none so far
+abbrev pub noneHeld : Held
+noneHeld = record { found = false; place = noPlace; distance = nought }
+
 -- the nearest so far with its distance, from which the next is to be closer
 unfoldable pub heldOf : (ℕ → Float) → Option ℕ → Held
-heldOf distances none = record { found = false; place = noPlace; distance = nought }
+heldOf distances none = noneHeld
 heldOf distances (some k) = record { found = true; place = k; distance = distances k }
 
 abbrev pub heldTo : List ℕ → List Float → ℕ → Held

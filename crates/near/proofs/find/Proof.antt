@@ -1,52 +1,21 @@
--- `near::find` meets its contract. The invariant: the nearest of the fixes before k is held. Assumes nothing.
+-- `near::find` meets its contract: the place that is held is the choice's (`held-place`). Assumes nothing.
 use borrow.Author.Needs.{needs}
-use Prim.Native.Nat.{_-_, _≤_}
-use mathlib.Core.Path.{_≡_, refl, ap, _∙_}
-use native.Mathlib.Omega.{arith}
-use Rattle.sets.specs.Choice.{choose}
+use mathlib.Core.Path.{ap, _∙_}
 use Rattle.near.specs.declared.Held.{Held}
-use Rattle.near.specs.Near.{distanceAt, nearestTo, placeOf, heldOf, heldTo}
-use Rattle.near.proofs.Records.{there}
+use Rattle.near.specs.Near.{distanceAt, nearestTo}
 use Rattle.near.proofs.Steps.{held-place}
 use Rattle.near.proofs.find.Statement.{statement}
 use Rattle.near.proofs.find.Tie as tie
 
-abbrev Inv-loop : tie.InvT-loop
-Inv-loop file n point held₀ k₀ held k = (k ≤ n) × (held ≡ heldTo file point k)
+hold-requires : tie.Need-hold-requires
+hold-requires c κs = search needs
 
-abbrev μ-loop : tie.MeasureT-loop
-μ-loop file n point held₀ k₀ held k = n - k
-
-loop-holds : tie.Need-loop-holds Inv-loop μ-loop
-unfolding heldOf choose
-loop-holds c = (omega arith, refl)
-
-nearest-to-requires : tie.Need-nearest-to-requires Inv-loop μ-loop
-nearest-to-requires c κs =
-    let loop = c .before .loop in
-    let start = c .before .before .before in
-    (there _ (start .args .n) (loop .k) (start .pre) (omega arith), loop .inv .1)
-
-add-k : tie.Need-add-k Inv-loop μ-loop
-add-k c = search needs
-
-loop-less : tie.Need-loop-less Inv-loop μ-loop
-loop-less c = search needs
-
-loop-again : tie.Need-loop-again Inv-loop μ-loop
-loop-again c = (omega arith, c .nearest-to .ensures)
-
-returns : tie.Need-returns Inv-loop μ-loop
+returns : tie.Need-returns
 returns c =
-    let loop = c .before .loop in
-    let args = c .before .before .before .args in
-    let e : loop .k ≡ args .n = omega arith in
+    let args = c .before .before .args in
     let file = args .file .now in
-    ap (λ (h : Held). h .place) (loop .inv .1)
-    ∙ held-place (distanceAt file (args .point)) (nearestTo file (args .point) (loop .k))
-    ∙ ap (λ k. placeOf (nearestTo file (args .point) k)) e
+    ap (λ (h : Held). h .place) (c .hold .ensures)
+    ∙ held-place (distanceAt file (args .point)) (nearestTo file (args .point) (args .n))
 
 pub find-spec : {M : Type 1} → statement M
-find-spec =
-    tie.close
-    (tie.spec Inv-loop μ-loop loop-holds nearest-to-requires add-k loop-less loop-again returns)
+find-spec = tie.close (tie.spec hold-requires returns)

@@ -1,9 +1,9 @@
--- `find_fixes::digits_from` ends: each turn reads a byte. Assumes nothing.
+-- `find_fixes::decimals::digits_from` ends: each turn reads a byte. Assumes nothing.
 use borrow.Author.Needs.{needs}
 use Prim.Native.Nat.{_-_, _≤_}
 use native.Mathlib.Omega.{arith}
-use Rattle.find_fixes.proofs.digits_from.Statement.{statement}
-use Rattle.find_fixes.proofs.digits_from.Tie as tie
+use Rattle.find_fixes.proofs.decimals.digits_from.Statement.{statement}
+use Rattle.find_fixes.proofs.decimals.digits_from.Tie as tie
 
 abbrev Inv-loop : tie.InvT-loop
 Inv-loop text from d₀ i₀ i-end d i = i ≤ i
