@@ -341,8 +341,8 @@ pub fn best_fit(
         n: k,
         l: [0.0; 1024],
     };
-    if whitening::whitener(clock_m2, n, noise_m2, index, k, &mut factor.l) {
-        let fitted = fits(sites, z, k, &factor.l, altitude, at, count);
+    if whitening::whitener(clock_m2, n, noise_m2, index, factor.n, &mut factor.l) {
+        let fitted = fits(sites, z, factor.n, &factor.l, altitude, at, count);
         return judged(sites, k, fitted, count);
     }
     refused(Unfit::Singular)
