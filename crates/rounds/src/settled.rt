@@ -112,10 +112,10 @@ pub fn settled(
         n: k,
         l: [0.0; 1024],
     };
-    if whitening::whitener(clock, n, noise, &index, k, &mut factor.l) {
+    if whitening::whitener(clock, n, noise, &index, factor.n, &mut factor.l) {
         let dof = dof(included, altitude);
         let params = fit.params;
-        if fit.cost > limit(&sites, &times, k, &factor.l, altitude, params, place, dof) {
+        if fit.cost > limit(&sites, &times, factor.n, &factor.l, altitude, params, place, dof) {
             return withheld(Unpublished::Inconsistent);
         }
         return finish(included, dof, reference_ps, fit, place);
