@@ -1,9 +1,10 @@
 // The solve: four inputs to an answer number and a record of 176 bytes.
 ghost use mathlib.Core.Path.{_≡_};
 ghost use mathlib.Core.Bool.{cond};
-ghost use Prim.Native.Nat.{_≤_, _<_};
+ghost use Prim.Native.Nat.{ℕ, _<_};
 ghost use lib.Dec.{leb};
-ghost use Rattle.receptions.specs.Receptions.{fieldsOf, receptionIn};
+ghost use Rattle.receptions.specs.declared.Reception as reception;
+ghost use Rattle.receptions.specs.Receptions.{Holds, Filled};
 ghost use Rattle.inputs.specs.Faults.{numberOf};
 ghost use Rattle.inputs.specs.Inputs.{inputsOf};
 ghost use Rattle.rounds.specs.Setting as setting;
@@ -117,9 +118,9 @@ fn reply_to(
     reference: &[u8],
     present: u32,
 ) -> Reply
-    requires { ⌜ (n ≤ 32 → f ≡ fieldsOf (receptionIn f) n) ⌝ }
-    ensures { λ r. ⌜ r ≡ reply.reply (inputsOf whole n (receptionIn f) (reply.given present) (now (clock .entry))
-        (now (altitude .entry)) (now (reference .entry))) ⌝ }
+    requires { ⌜ Filled f n ⌝ }
+    ensures { λ r. ⌜ ((at : ℕ → reception.Reception) → Holds f n at → r ≡ reply.reply (inputsOf whole n at
+        (reply.given present) (now (clock .entry)) (now (altitude .entry)) (now (reference .entry)))) ⌝ }
 {
     let g = given(present);
     let found = inputs::check_inputs(f, whole, n, g, clock, altitude, reference);
@@ -145,9 +146,10 @@ pub fn solve_fields(
     present: u32,
     out: &mut [u8],
 ) -> u32
-    requires { ⌜ (n ≤ 32 → f ≡ fieldsOf (receptionIn f) n) ⌝ }
-    ensures { λ r. ⌜ reply.Promise (inputsOf whole n (receptionIn f) (reply.given present) (now (clock .entry))
-        (now (altitude .entry)) (now (reference .entry))) (now (out .entry)) r (now (out .exit)) ⌝ }
+    requires { ⌜ Filled f n ⌝ }
+    ensures { λ r. ⌜ ((at : ℕ → reception.Reception) → Holds f n at → reply.Promise (inputsOf whole n at
+        (reply.given present) (now (clock .entry)) (now (altitude .entry)) (now (reference .entry)))
+        (now (out .entry)) r (now (out .exit))) ⌝ }
 {
     if out.len() < RECORD {
         return refusals::SHORT_OUTPUT;

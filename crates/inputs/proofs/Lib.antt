@@ -1,7 +1,7 @@
--- The laws that the proofs share. Order, Alike and Places serve the crates above too.
+-- The laws that the proofs share. Order and Places serve the crates above too.
 pub mod Limits
 pub mod Correction
-pub mod Alike
+pub mod Held
 pub mod Steps
 pub mod Order
 pub mod Sound

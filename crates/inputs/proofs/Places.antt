@@ -16,7 +16,8 @@ use Rattle.inputs.specs.declared.Check.{Check}
 use Rattle.inputs.specs.declared.Check.the-variants.{Passed, Refused}
 use Rattle.inputs.specs.Domain.{goodReception, goodAltitude}
 use Rattle.inputs.specs.Faults.{orElse, unless, firstTo}
-use Rattle.inputs.specs.Inputs.{Inputs, whole, ascends, checkReception, goodRowTo, checkRow, checkClock, checkAltitude}
+use Rattle.receptions.specs.Identities.{ascends}
+use Rattle.inputs.specs.Inputs.{Inputs, whole, checkReception, goodRowTo, checkRow, checkClock, checkAltitude}
 use Rattle.inputs.specs.Inputs.{kindAt, correctionAt, metresAt, checkCovered, checkInputs}
 
 -- of a disorder "index", which is that of the later one; of a bad field "index; 100 + row for clock; 200 for altitude"

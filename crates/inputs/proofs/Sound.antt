@@ -20,18 +20,19 @@ use Rattle.problem.specs.declared.Altitude.the-variants.{Barometric, Gnss}
 use Rattle.problem.specs.declared.Problem.{Problem}
 use Rattle.receptions.specs.declared.Reception.{Reception}
 use Rattle.receptions.specs.declared.Fields.{Fields}
-use Rattle.receptions.specs.Receptions.{fillTo, wholes, floats, fieldsOf, receptionIn}
+use Rattle.receptions.specs.Receptions.{fillTo, wholes, floats, fieldsOf}
 use Rattle.inputs.specs.declared.Fault.the-variants.{Disorder, BadField}
 use Rattle.inputs.specs.declared.Check.the-variants.{Passed}
 use Rattle.inputs.specs.declared.Given.{Given}
 use Rattle.inputs.specs.Faults.{unless, firstTo}
 use Rattle.inputs.specs.Domain.{goodTime, goodCoordinate, goodSite, goodZ, goodNoise, goodReception, goodEntry, goodMetres, goodCorrection, isZero, goodAltitude}
-use Rattle.inputs.specs.Inputs.{entryAt, Inputs, inputsOf, ascends, checkReception, goodRowTo, checkRow, kindAt, correctionAt, metresAt, checkAltitude, checkInputs, metresOf, upperAt, altitudeOf, shownOf, referenceOf, problemOf}
-use Rattle.inputs.specs.InDomain.{InDomain, Ascending, altitudeGood}
+use Rattle.inputs.specs.Inputs.{entryAt, Inputs, inputsOf, checkReception, goodRowTo, checkRow, kindAt, correctionAt, metresAt, checkAltitude, checkInputs, metresOf, upperAt, altitudeOf, shownOf, referenceOf, problemOf}
+use Rattle.inputs.specs.InDomain.{InDomain, Ascending, Read, altitudeGood}
 use Rattle.inputs.proofs.Order.{both-of, good-of, or-of, few, passed-receptions, passed-clock, passed-altitude, is-covered, clock-of, first-of}
-use Rattle.receptions.specs.Identities.{before}
+use Rattle.receptions.specs.Identities.{before, ascends}
 use Rattle.receptions.proofs.Filling.{fill-at}
 use Rattle.receptions.proofs.Meaning.{identities-ordered}
+use Rattle.inputs.proofs.Held.{metresIn, metres-held}
 
 -- ---- a reception that passes
 module _ (from : ℕ → Reception) (i : ℕ) (e : checkReception from i ≡ Passed) where
@@ -190,18 +191,20 @@ made n f site clock altitude reference shown =
       shown = shown;
     }
 
-module _ (f : Fields) (n : ℕ) (g : Given) (b alt ref : List ℕ) (pre : (f ≡ fieldsOf (receptionIn f) n) × (checkInputs (inputsOf true n (receptionIn f) g b alt ref) ≡ Passed)) where
+module _ (f : Fields) (n : ℕ) (from : ℕ → Reception) (filled : f ≡ fieldsOf from n) (g : Given) (b alt ref : List ℕ) (e : checkInputs (inputsOf true n from g b alt ref) ≡ Passed) where
   abbrev J : Inputs
-  J = inputsOf true n (receptionIn f) g b alt ref
+  J = inputsOf true n from g b alt ref
 
   pub is-problem
       : {site clock : List Float} {altitude shown : Altitude} {reference : ℤ}
-      → site ≡ metresOf (receptionIn f) n → clock ≡ covarianceOf b n → altitude ≡ altitudeOf (J .altitude) → reference ≡ referenceOf (J .reference)
+      → site ≡ metresIn (f .«site_mm») n → clock ≡ covarianceOf b n → altitude ≡ altitudeOf (J .altitude) → reference ≡ referenceOf (J .reference)
       → shown ≡ shownOf (J .altitude)
-      → (made n f site clock altitude reference shown ≡ problemOf J) × InDomain (made n f site clock altitude reference shown) × Ascending (receptionIn f) n
+      → Read J (made n f site clock altitude reference shown)
   unfolding problemOf
   is-problem s c a r d =
-      let e : made n f (metresOf (receptionIn f) n) (covarianceOf b n) (altitudeOf (J .altitude)) (referenceOf (J .reference)) (shownOf (J .altitude)) ≡ problemOf J
-      = ap₂ (λ (h : Fields) (k : List ℕ). made n h (metresOf (receptionIn f) n) (covarianceOf k n) (altitudeOf (J .altitude)) (referenceOf (J .reference)) (shownOf (J .altitude)))
-      (pre .0) (sym (clock-whole n (receptionIn f) g b alt ref (pre .1) .0)) in
-      rw (s, c, a, r, d) (e, subst InDomain (sym e) (in-domain n (receptionIn f) g b alt ref (pre .1)), ascending n (receptionIn f) g b alt ref (pre .1))
+      let same : made n f (metresOf from n) (covarianceOf b n) (altitudeOf (J .altitude)) (referenceOf (J .reference)) (shownOf (J .altitude)) ≡ problemOf J
+      = ap₂ (λ (h : Fields) (k : List ℕ). made n h (metresOf from n) (covarianceOf k n) (altitudeOf (J .altitude)) (referenceOf (J .reference)) (shownOf (J .altitude)))
+      filled (sym (clock-whole n from g b alt ref e .0)) in
+      rw (s, metres-held f n (few J e) from filled, c, a, r, d) (
+      record { problem = same; inDomain = subst InDomain (sym same) (in-domain n from g b alt ref e); ascending = ascending n from g b alt ref e }
+      )

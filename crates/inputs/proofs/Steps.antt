@@ -1,57 +1,49 @@
 -- One step of each loop and test, over variables. Assumes nothing.
 use Prim.Native.Nat.{ℕ, zero, suc, _+_, _*_, _-_, _<_, _≤_}
-use mathlib.Core.Path.{_≡_, refl, _∙_}
-use mathlib.Core.Bool.{Bool, true, _&&_, _||_}
+use mathlib.Core.Path.{_≡_, _∙_}
+use mathlib.Core.Bool.{Bool, true, _&&_}
 use mathlib.Core.List.{List}
 use native.Mathlib.Omega.{arith}
 use native.Mathlib.Numerals.{add-one}
 use borrow.Author.Tests.{eqb-true}
-use lib.Dec.{eqb, eqb·suc-zero}
 use lib.IntN.{ℤ}
 use lib.ListN.{set, length}
 use lib.Ieee.{Float}
 use Rattle.dense.specs.Entries.{nth}
 use Rattle.geo.specs.Geo.{fromMm}
-use Rattle.receptions.specs.declared.ObservationId.{ObservationId}
-use Rattle.receptions.specs.declared.Reception.{Reception}
-use Rattle.receptions.specs.Identities.{before}
+use Rattle.sets.specs.Mask.{has}
 use Rattle.receptions.specs.declared.Fields.{Fields}
-use Rattle.receptions.specs.Receptions.{floats, receptionIn}
+use Rattle.receptions.specs.Receptions.{floats, siteIn}
 use Rattle.inputs.specs.declared.Fault.the-variants.{Disorder, BadField}
 use Rattle.inputs.specs.declared.Check.{Check}
 use Rattle.inputs.specs.Faults.{orElse, unless, firstTo}
-use Rattle.inputs.specs.Domain.{goodReception, goodEntry}
-use Rattle.inputs.specs.Inputs.{entryAt, ascends, checkReception, goodRowTo, metresOf, given, sized}
+use Rattle.inputs.specs.Domain.{goodEntry}
+use Rattle.inputs.specs.Inputs.{entryAt, goodRowTo, given, sized}
 use Rattle.receptions.proofs.Filling.{fill-three}
+use Rattle.inputs.proofs.Held.{goodIn, checkIn, metresIn}
 
 pub first-next : (check : ℕ → Check) (k : ℕ) → orElse (firstTo check k) (check k) ≡ firstTo check (k + 1)
 unfolding firstTo
 first-next check k = rw add-one
 
-pub ascends-is : (id : ℕ → ObservationId) (i : ℕ) → (eqb i 0 || before (id (i - 1)) (id i)) ≡ ascends id i
-unfolding ascends
-ascends-is id zero = refl
-ascends-is id (suc i) = let e : suc i - 1 ≡ i = omega arith in rw (eqb·suc-zero i, e)
-
 pub check-next
-    : (f : Fields) (i : ℕ) {r : Reception} {found found′ check : Check} {above : Bool}
-    → found ≡ firstTo (checkReception (receptionIn f)) i
-    → r ≡ receptionIn f i
-    → above ≡ (eqb i 0 || before (receptionIn f (i - 1) .id) (receptionIn f i .id))
-    → check ≡ orElse (unless (goodReception r) (BadField i)) (unless above (Disorder i))
+    : (f : Fields) (i : ℕ) {found found′ check : Check} {good above : Bool}
+    → found ≡ firstTo (checkIn f) i
+    → good ≡ goodIn f i
+    → above ≡ has (f .ascending) i
+    → check ≡ orElse (unless good (BadField i)) (unless above (Disorder i))
     → found′ ≡ orElse found check
-    → found′ ≡ firstTo (checkReception (receptionIn f)) (i + 1)
-unfolding checkReception
-check-next f i e r a c h = h ∙ rw (e, c, r, a, ascends-is (λ k. receptionIn f k .id) i) (first-next (checkReception (receptionIn f)) i)
+    → found′ ≡ firstTo (checkIn f) (i + 1)
+check-next f i e g a c h = h ∙ rw (e, c, g, a) (first-next (checkIn f) i)
 
 pub metres-next
-    : (f : Fields) (i : ℕ) {site : List ℤ} {out out′ metres : List Float}
-    → out ≡ metresOf (receptionIn f) i
-    → site ≡ receptionIn f i .«site_mm»
+    : (sites : List ℤ) (i : ℕ) {site : List ℤ} {out out′ metres : List Float}
+    → out ≡ metresIn sites i
+    → site ≡ siteIn sites i
     → metres ≡ fromMm site
     → out′ ≡ set (set (set out (3 * i) (nth metres 0)) (3 * i + 1) (nth metres 1)) (3 * i + 2) (nth metres 2)
-    → out′ ≡ metresOf (receptionIn f) (i + 1)
-metres-next f i e s m h = h ∙ rw (e, m, s) (fill-three (floats 96) (λ i a. nth (fromMm (receptionIn f i .«site_mm»)) a) i)
+    → out′ ≡ metresIn sites (i + 1)
+metres-next sites i e s m h = h ∙ rw (e, m, s) (fill-three (floats 96) (λ i a. nth (fromMm (siteIn sites i)) a) i)
 
 pub row-start : (clock : List ℕ) (n i : ℕ) → true ≡ goodRowTo clock n i (i - i)
 unfolding goodRowTo

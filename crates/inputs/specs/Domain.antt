@@ -26,7 +26,9 @@ abbrev pub goodCoordinate : ℤ → Bool
 goodCoordinate = between (negsuc 9999999999) (pos 10000000000)
 
 abbrev pub goodSite : List ℤ → Bool
-goodSite site = goodCoordinate (getD site 0 (pos 0)) && (goodCoordinate (getD site 1 (pos 0)) && goodCoordinate (getD site 2 (pos 0)))
+goodSite site =
+    goodCoordinate (getD site 0 (pos 0))
+    && (goodCoordinate (getD site 1 (pos 0)) && goodCoordinate (getD site 2 (pos 0)))
 
 -- "z 0 to 3·10^9"
 unfoldable pub goodZ : Float → Bool
@@ -38,7 +40,9 @@ goodNoise = within (decimal 1 6) (decimal 1000000000000 0)
 
 -- all of these, and zero bytes
 unfoldable pub goodReception : Reception → Bool
-goodReception r = goodTime (r .time) && (goodSite (r .«site_mm») && ((goodZ (r .z) && goodNoise (r .«noise_m2»)) && eqb (r .filler) 0))
+goodReception r =
+    goodTime (r .time)
+    && (goodSite (r .«site_mm») && ((goodZ (r .z) && goodNoise (r .«noise_m2»)) && eqb (r .filler) 0))
 
 -- "clock diagonal 0 to 10^12, the entries right of it within ±10^12": the entry x in row i and column j
 unfoldable pub goodEntry : ℕ → ℕ → Float → Bool

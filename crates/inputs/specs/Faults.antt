@@ -1,4 +1,5 @@
--- What the inputs are turned away for. Document 01, 'When there is no fix': number and detail of each, and checks in order. Definitions only.
+-- What the inputs are turned away for. Document 01, 'When there is no fix': number and detail of each, and checks in
+-- order. Definitions only.
 use mathlib.Core.Bool.{Bool, cond}
 use Prim.Native.Nat.{ℕ, zero, suc}
 use Rattle.refusals.specs.Refusals as refusals

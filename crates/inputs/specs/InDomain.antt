@@ -1,7 +1,9 @@
--- What holds of every problem that was read: document 01's domain, and document 02's order. Statements only.
+-- What holds of every problem that was read: it is the problem of its inputs, in document 01's domain and document 02's
+-- order. Statements only.
 use mathlib.Core.Path.{_≡_}
 use mathlib.Core.Logic.{_↔_}
 use mathlib.Core.Bool.{Bool, true}
+use mathlib.Core.List.{List}
 use Prim.Native.Nat.{ℕ, _*_, _<_, _≤_}
 use lib.IntN.{pos}
 use lib.ListN.{getD}
@@ -10,8 +12,13 @@ use Rattle.problem.specs.declared.Altitude.{Altitude}
 use Rattle.problem.specs.declared.Altitude.the-variants.{None, Barometric, Gnss}
 use Rattle.problem.specs.declared.Problem.{Problem}
 use Rattle.receptions.specs.declared.Reception.{Reception}
+use Rattle.receptions.specs.declared.Fields.{Fields}
 use Rattle.receptions.specs.Identities.{before}
+use Rattle.receptions.specs.Receptions.{fieldsOf}
+use Rattle.inputs.specs.declared.Given.{Given}
+use Rattle.inputs.specs.Faults.{passed}
 use Rattle.inputs.specs.Domain.{goodTime, goodCoordinate, goodZ, goodNoise, goodEntry, goodMetres}
+use Rattle.inputs.specs.Inputs.{Inputs, inputsOf, checkInputs, problemOf}
 
 abbrev pub altitudeGood : Altitude → Bool
 altitudeGood None = true
@@ -31,6 +38,18 @@ pub record InDomain (p : Problem) : Type 0 where
 -- "identities strictly ascending": of any two of the first n receptions the earlier comes before the later
 abbrev pub Ascending : (ℕ → Reception) → ℕ → Type 0
 Ascending at n = (i j : ℕ) → i < j → j < n → before (at i .id) (at j .id) ≡ true
+
+-- the arrays f hold n receptions that, with the other inputs, nothing turns away
+abbrev pub Passing : Fields → ℕ → Given → List ℕ → List ℕ → List ℕ → Type 0
+Passing f n g clock altitude reference =
+    (at : ℕ → Reception)
+    × ((f ≡ fieldsOf at n) × (checkInputs (inputsOf true n at g clock altitude reference) ≡ passed))
+
+-- P is what was read of the inputs I
+pub record Read (I : Inputs) (P : Problem) : Type 0 where
+  pub problem : P ≡ problemOf I
+  pub inDomain : InDomain P
+  pub ascending : Ascending (I .at) (I .n)
 
 -- "Ties everywhere follow the new order": where receptions ascend, the one of two with the lower place is the one with
 -- the lower identity, so "lowest index on ties" is lowest identity on ties

@@ -1,4 +1,5 @@
--- The four inputs of a solve: the refusal that they get, and the problem that they hold where they get none. Definitions only.
+-- The four inputs of a solve: the refusal that they get, and the problem that they hold where they get none.
+-- Definitions only.
 use mathlib.Core.Bool.{Bool, true, cond, _&&_}
 use mathlib.Core.List.{List, []}
 use mathlib.Core.Option.{Option, none, some, Option·getD}
@@ -14,9 +15,8 @@ use Rattle.words.specs.Words.{u32At, i32At, i64At, f64At}
 use Rattle.problem.specs.declared.Altitude.{Altitude}
 use Rattle.problem.specs.declared.Altitude.the-variants.{None, Barometric, Gnss}
 use Rattle.problem.specs.declared.Problem.{Problem}
-use Rattle.receptions.specs.declared.ObservationId.{ObservationId}
 use Rattle.receptions.specs.declared.Reception.{Reception}
-use Rattle.receptions.specs.Identities.{before}
+use Rattle.receptions.specs.Identities.{ascends}
 use Rattle.receptions.specs.Receptions.{fillTo, floats, fieldsOf}
 use Rattle.inputs.specs.declared.Fault.the-variants.{TornInput, TooMany, Disorder, BadField, ClockSize, Uncovered}
 use Rattle.inputs.specs.declared.Check.{Check}
@@ -25,7 +25,8 @@ use Rattle.inputs.specs.declared.Given.{Given}
 use Rattle.inputs.specs.Faults.{orElse, unless, firstTo}
 use Rattle.inputs.specs.Domain.{isZero, goodReception, goodEntry, goodAltitude}
 
--- the receptions (whether they came whole, how many, and each), and the bytes of clock.bin, altitude.bin and reference.bin
+-- the receptions (whether they came whole, how many, and each), and the bytes of clock.bin, altitude.bin and
+-- reference.bin
 pub record Inputs : Type 0 where
   pub whole : Bool
   pub n : ℕ
@@ -40,7 +41,14 @@ given there bytes = cond there (some bytes) none
 
 abbrev pub inputsOf : Bool → ℕ → (ℕ → Reception) → Given → List ℕ → List ℕ → List ℕ → Inputs
 inputsOf whole n at g clock altitude reference =
-    record { whole = whole; n = n; at = at; clock = given (g .clock) clock; altitude = given (g .altitude) altitude; reference = given (g .reference) reference }
+    record {
+      whole = whole;
+      n = n;
+      at = at;
+      clock = given (g .clock) clock;
+      altitude = given (g .altitude) altitude;
+      reference = given (g .reference) reference;
+    }
 
 -- ---- what they are turned away for
 
@@ -52,14 +60,10 @@ sized size (some bytes) = eqb (length bytes) size
 unfoldable pub whole : Inputs → Bool
 whole I = I .whole && (sized 16 (I .altitude) && sized 8 (I .reference))
 
--- 11: "identity not above the one before"
-unfoldable pub ascends : (ℕ → ObservationId) → ℕ → Bool
-ascends id zero = true
-ascends id (suc i) = before (id i) (id (suc i))
-
--- "receptions one by one, 12 before 11": reception i
+-- "receptions one by one, 12 before 11": reception i. 11 is "identity not above the one before", `ascends` that is false
 unfoldable pub checkReception : (ℕ → Reception) → ℕ → Check
-checkReception at i = orElse (unless (goodReception (at i)) (BadField i)) (unless (ascends (λ k. at k .id) i) (Disorder i))
+checkReception at i =
+    orElse (unless (goodReception (at i)) (BadField i)) (unless (ascends (λ k. at k .id) i) (Disorder i))
 
 -- "`clock.bin`: n × n f64, m²": the entry in row i and column j
 unfoldable pub entryAt : List ℕ → ℕ → ℕ → ℕ → Float
@@ -79,8 +83,8 @@ abbrev pub checkClock : Option (List ℕ) → ℕ → Check
 checkClock none n = Passed
 checkClock (some clock) n = orElse (unless (eqb (length clock) (8 * (n * n))) ClockSize) (firstTo (checkRow clock n) n)
 
--- "`altitude.bin`: kind byte, seven zero bytes, metres f64". Document 02, Item 8: "Bytes 4 to 7 of `altitude.bin` become
--- an i32 in centimetres". The kind and the three zero bytes that are left are one u32, which is the kind.
+-- "`altitude.bin`: kind byte, seven zero bytes, metres f64". Document 02, Item 8: "Bytes 4 to 7 of `altitude.bin`
+-- become an i32 in centimetres". The kind and the three zero bytes that are left are one u32, which is the kind.
 abbrev pub kindAt : List ℕ → ℕ
 kindAt altitude = u32At altitude 0
 
@@ -101,7 +105,8 @@ abbrev pub checkCovered : Option (List ℕ) → Check
 checkCovered none = Refused Uncovered
 checkCovered (some clock) = Passed
 
--- "Order: 14, 15, 10; receptions one by one, 12 before 11; 13; clock entries by rows; altitude; then the Rust's order, where 7 comes first." The output's 14 is the caller's.
+-- "Order: 14, 15, 10; receptions one by one, 12 before 11; 13; clock entries by rows; altitude; then the Rust's order,
+-- where 7 comes first." The output's 14 is the caller's.
 unfoldable pub checkInputs : Inputs → Check
 checkInputs I =
     orElse (unless (whole I) TornInput)

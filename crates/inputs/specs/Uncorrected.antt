@@ -1,6 +1,6 @@
 -- Document 02, Item 8: "A correction of 0 is not added at all, since -0 metres would change, and with it each old
--- answer stays." Document 01's form of altitude.bin, and that it is today's where the correction is 0. Definitions and a
--- statement only: proofs/Uncorrected.antt proves it.
+-- answer stays." Document 01's form of altitude.bin, and that it is today's where the correction is 0. Definitions and
+-- a statement only: proofs/Uncorrected.antt proves it.
 use mathlib.Core.Path.{_≡_}
 use mathlib.Core.Bool.{Bool, cond, _&&_, _||_}
 use mathlib.Core.List.{List}

@@ -1,8 +1,8 @@
 // The domain of documents 01 and 02, every end included.
 ghost use mathlib.Core.Path.{_≡_};
 ghost use mathlib.Core.Bool.{_&&_};
+ghost use lib.Dec.{eqb};
 ghost use Rattle.inputs.specs.Domain as domain;
-use receptions::Reception;
 
 // The ends of the domain, by document 01: picoseconds, millimetres, metres, square metres (three of
 // them) and metres; by document 02: centimetres.
@@ -59,14 +59,15 @@ fn good_site(site: [i64; 3]) -> bool
     )
 }
 
-pub fn good_reception(r: Reception) -> bool
-    ensures { λ g. ⌜ g ≡ domain.goodReception r ⌝ }
+// A reception, by its fields but the identity.
+pub fn good_reception(time: i64, site: [i64; 3], z: f64, noise_m2: f64, filler: u64) -> bool
+    ensures { λ r. ⌜ r ≡ (domain.goodTime time && (domain.goodSite site
+        && ((domain.goodZ z && domain.goodNoise «noise_m2») && eqb filler 0))) ⌝ }
 {
-    let timed = between(0, TIME, r.time);
-    let site = r.site_mm;
+    let timed = between(0, TIME, time);
     let placed = good_site(site);
-    let measured = both(within(0.0, Z, r.z), within(LEAST_NOISE, NOISE, r.noise_m2));
-    both(timed, both(placed, both(measured, r.filler == 0)))
+    let measured = both(within(0.0, Z, z), within(LEAST_NOISE, NOISE, noise_m2));
+    both(timed, both(placed, both(measured, filler == 0)))
 }
 
 // The clock covariance of receptions i and j, for i on or left of j.

@@ -3,25 +3,20 @@ mod domain;
 mod files;
 
 ghost use mathlib.Core.Path.{_≡_};
-ghost use mathlib.Core.Bool.{true, _||_};
-ghost use mathlib.Core.List.{[], _∷_};
-ghost use Prim.Native.Nat.{_+_, _*_, _-_, _<_, _≤_};
-ghost use lib.Dec.{eqb};
-ghost use lib.IntN.{pos};
-ghost use lib.ListN.{length, set, getD};
+ghost use mathlib.Core.Bool.{true};
+ghost use Prim.Native.Nat.{ℕ, _+_, _*_, _-_, _/_, _%_, _<_, _≤_};
+ghost use lib.ListN.{length, set};
 ghost use Rattle.dense.specs.Entries.{nth};
-ghost use Rattle.receptions.specs.Identities.{before};
-ghost use Rattle.receptions.specs.Receptions.{fillTo, floats, fieldsOf, receptionIn};
+ghost use Rattle.geo.specs.Geo.{fromMm};
+ghost use Rattle.receptions.specs.declared.Reception as reception;
+ghost use Rattle.receptions.specs.Receptions.{fillTo, floats, fieldsOf, Holds, siteIn};
 ghost use Rattle.inputs.specs.declared.Fault.the-variants.{Disorder, BadField};
 ghost use Rattle.inputs.specs.Faults as faults;
-ghost use Rattle.inputs.specs.Domain.{goodReception};
 ghost use Rattle.inputs.specs.Inputs as inputs;
-ghost use Rattle.inputs.specs.InDomain.{InDomain, Ascending};
+ghost use Rattle.inputs.specs.InDomain.{Passing, Read};
 use problem::Altitude;
 use problem::Problem;
 use receptions::Fields;
-use receptions::ObservationId;
-use receptions::Reception;
 
 // What is wrong with the inputs. A bad field's number is the place of its reception, 100 and the
 // row of its clock entry, or 200 for the altitude; a disorder's is the place of the reception whose
@@ -97,63 +92,34 @@ fn unless(good: bool, fault: Fault) -> Check
 // The three coordinates of site i.
 fn site_in(mm: &[i64; 96], i: usize) -> [i64; 3]
     requires { ⌜ i < 32 ⌝ }
-    ensures { λ r. ⌜ r ≡ getD (now (mm .entry)) (3 * i) (pos 0) ∷ getD (now (mm .entry)) (3 * i + 1) (pos 0) ∷ getD (now (mm .entry)) (3 * i + 2) (pos 0) ∷ [] ⌝ }
+    ensures { λ r. ⌜ r ≡ siteIn (now (mm .entry)) i ⌝ }
 {
     let at = 3 * i;
     [mm[at], mm[at + 1], mm[at + 2]]
 }
 
-// The place before i, and 0 before 0.
-fn place_before(i: usize) -> usize
-    ensures { λ r. ⌜ r ≡ i - 1 ⌝ }
-{
-    if i == 0 {
-        return 0;
-    }
-    i - 1
-}
-
-// Whether the identity of reception i is above the last.
-fn ascends(last: ObservationId, id: ObservationId, i: usize) -> bool
-    ensures { λ r. ⌜ r ≡ (eqb i 0 || before last id) ⌝ }
-{
-    if i == 0 {
-        return true;
-    }
-    receptions::before(last, id)
-}
-
-// Reception i, whose identity is above the one before or not.
-fn check_reception(r: Reception, above: bool, i: usize) -> Check
+// Reception i, whose fields are in the domain or not, and whose identity is above the one before or not.
+fn check_reception(good: bool, above: bool, i: usize) -> Check
     requires { ⌜ i < 32 ⌝ }
-    ensures { λ c. ⌜ c ≡ faults.orElse (faults.unless (goodReception r) (BadField i)) (faults.unless above (Disorder i)) ⌝ }
+    ensures { λ c. ⌜ c ≡ faults.orElse (faults.unless good (BadField i)) (faults.unless above (Disorder i)) ⌝ }
 {
     let place = i as u32;
-    let field = unless(domain::good_reception(r), Fault::BadField(place));
+    let field = unless(good, Fault::BadField(place));
     let order = unless(above, Fault::Disorder(place));
     or_else(field, order)
 }
 
 fn check_receptions(f: Fields, n: usize) -> Check
     requires { ⌜ n ≤ 32 ⌝ }
-    ensures { λ r. ⌜ r ≡ faults.firstTo (inputs.checkReception (receptionIn f)) n ⌝ }
+    ensures { λ r. ⌜ ((at : ℕ → reception.Reception) → f ≡ fieldsOf at n
+        → r ≡ faults.firstTo (inputs.checkReception at) n) ⌝ }
 {
     let mut found = Check::Passed;
     for i in 0..n {
-        let k = place_before(i);
-        let last = f.id[k];
-        let id = f.id[i];
-        let above = ascends(last, id, i);
         let site = site_in(&f.site_mm, i);
-        let r = Reception {
-            id,
-            time: f.time[i],
-            site_mm: site,
-            z: f.z[i],
-            noise_m2: f.noise_m2[i],
-            filler: f.filler[i],
-        };
-        found = or_else(found, check_reception(r, above, i));
+        let good = domain::good_reception(f.time[i], site, f.z[i], f.noise_m2[i], f.filler[i]);
+        let above = sets::has(f.ascending, i);
+        found = or_else(found, check_reception(good, above, i));
     }
     found
 }
@@ -236,7 +202,8 @@ pub fn check_inputs(
     altitude: &[u8],
     reference: &[u8],
 ) -> Check
-    ensures { λ r. ⌜ r ≡ inputs.checkInputs (inputs.inputsOf whole n (receptionIn f) g (now (clock .entry)) (now (altitude .entry)) (now (reference .entry))) ⌝ }
+    ensures { λ r. ⌜ ((at : ℕ → reception.Reception) → Holds f n at → r ≡ inputs.checkInputs (inputs.inputsOf whole n at g
+        (now (clock .entry)) (now (altitude .entry)) (now (reference .entry)))) ⌝ }
 {
     if !whole {
         return Check::Refused(Fault::TornInput);
@@ -259,7 +226,8 @@ pub fn check_inputs(
 
 fn put_metres(out: &mut [f64; 96], i: usize, site: [f64; 3])
     requires { ⌜ i < 32 ⌝ }
-    ensures { λ _. ⌜ now (out .exit) ≡ set (set (set (now (out .entry)) (3 * i) (nth site 0)) (3 * i + 1) (nth site 1)) (3 * i + 2) (nth site 2) ⌝ }
+    ensures { λ _. ⌜ now (out .exit)
+        ≡ set (set (set (now (out .entry)) (3 * i) (nth site 0)) (3 * i + 1) (nth site 1)) (3 * i + 2) (nth site 2) ⌝ }
 {
     let at = 3 * i;
     out[at] = site[0];
@@ -268,13 +236,14 @@ fn put_metres(out: &mut [f64; 96], i: usize, site: [f64; 3])
 }
 
 // The metres of the first n sites.
-fn metres_of(f: Fields, n: usize) -> [f64; 96]
+fn metres_of(mm: &[i64; 96], n: usize) -> [f64; 96]
     requires { ⌜ n ≤ 32 ⌝ }
-    ensures { λ r. ⌜ r ≡ inputs.metresOf (receptionIn f) n ⌝ }
+    ensures { λ r. ⌜ r
+        ≡ fillTo (floats 96) (λ k. nth (fromMm (siteIn (now (mm .entry)) (k / 3))) (k % 3)) (3 * n) ⌝ }
 {
     let mut out = [0.0; 96];
     for i in 0..n {
-        let site = site_in(&f.site_mm, i);
+        let site = site_in(mm, i);
         put_metres(&mut out, i, geo::from_mm(site));
     }
     out
@@ -365,10 +334,11 @@ pub fn problem_of(
     altitude: &[u8],
     reference: &[u8],
 ) -> Problem
-    requires { ⌜ (f ≡ fieldsOf (receptionIn f) n) × (inputs.checkInputs (inputs.inputsOf true n (receptionIn f) g (now clock) (now altitude) (now reference)) ≡ faults.passed) ⌝ }
-    ensures { λ r. ⌜ (r ≡ inputs.problemOf (inputs.inputsOf true n (receptionIn f) g (now (clock .entry)) (now (altitude .entry)) (now (reference .entry)))) × InDomain r × Ascending (receptionIn f) n ⌝ }
+    requires { ⌜ Passing f n g (now clock) (now altitude) (now reference) ⌝ }
+    ensures { λ r. ⌜ ((at : ℕ → reception.Reception) → f ≡ fieldsOf at n → Read (inputs.inputsOf true n at g
+        (now (clock .entry)) (now (altitude .entry)) (now (reference .entry))) r) ⌝ }
 {
-    let site = metres_of(f, n);
+    let site = metres_of(&f.site_mm, n);
     let clock_m2 = covariance_of(clock, n);
     let solved_with = altitude_of(g.altitude, altitude);
     let reference_ps = reference_of(g.reference, reference);

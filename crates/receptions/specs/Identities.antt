@@ -2,7 +2,7 @@
 -- the first." Definitions only; specs/Meaning.antt says what they mean.
 use mathlib.Core.Bool.{Bool, true, false, cond}
 use mathlib.Core.List.{List, [], _∷_}
-use Prim.Native.Nat.{ℕ}
+use Prim.Native.Nat.{ℕ, zero, suc}
 use lib.Dec.{ltb}
 use Rattle.receptions.specs.declared.ObservationId.{ObservationId}
 use Rattle.receptions.specs.declared.identity.Ordering.{Ordering}
@@ -39,3 +39,8 @@ isLess Greater = false
 -- "identity not above the one before" is `before` that is false
 unfoldable pub before : ObservationId → ObservationId → Bool
 before a b = isLess (compare a b)
+
+-- 11: "identity not above the one before". Whether that of reception i is above it; the first has none before it.
+unfoldable pub ascends : (ℕ → ObservationId) → ℕ → Bool
+ascends id zero = true
+ascends id (suc i) = before (id i) (id (suc i))

@@ -1,16 +1,18 @@
 -- The receptions of a solve: those of receptions.bin, those of a caller's list, and as arrays by field. Document 01,
 -- 'The fix: 176 bytes' and 'Forms for parts of the code'; document 02, item 6. Definitions only.
 use mathlib.Core.List.{List, [], _∷_}
-use Prim.Native.Nat.{ℕ, zero, suc, _+_, _*_, _/_, _%_}
+use Prim.Native.Nat.{ℕ, zero, suc, _+_, _*_, _/_, _%_, _≤_}
+use mathlib.Core.Path.{_≡_}
 use lib.IntN.{ℤ, pos}
 use lib.ListN.{getD, set, replicate, take, drop}
 use lib.Ieee.{Float, nan}
 use Rattle.binary64.specs.Steps.{nought}
-use Rattle.dense.specs.Entries.{nth}
+use Rattle.sets.specs.Mask.{maskOf}
 use Rattle.words.specs.Words.{u32At, u64At, i64At, f64At}
 use Rattle.receptions.specs.declared.ObservationId.{ObservationId}
 use Rattle.receptions.specs.declared.Reception.{Reception}
 use Rattle.receptions.specs.declared.Fields.{Fields}
+use Rattle.receptions.specs.Identities.{ascends}
 
 -- "in place of the u64, which makes 132 bytes"
 abbrev pub receptionBytes : ℕ
@@ -71,12 +73,13 @@ unfoldable pub fillTo : {A : Type 0} → List A → (ℕ → A) → ℕ → List
 fillTo a f zero = a
 fillTo a f (suc k) = set (fillTo a f k) k (f k)
 
--- "unpacked into arrays by field": the first n receptions, three coordinates a site, and zeros past them
+-- "unpacked into arrays by field": the first n receptions, three coordinates a site, and zeros past them. Of the
+-- identities a bit each is kept: bit i is set where reception i's is above the one before
 unfoldable pub fieldsOf : (ℕ → Reception) → ℕ → Fields
-unfolding fillTo
+unfolding fillTo maskOf
 fieldsOf at n =
     record {
-      id = fillTo (replicate 32 blankId) (λ i. at i .id) n;
+      ascending = maskOf (ascends (λ i. at i .id)) n;
       time = fillTo (wholes 32) (λ i. at i .time) n;
       «site_mm» = fillTo (wholes 96) (λ k. getD (at (k / 3) .«site_mm») (k % 3) (pos 0)) (3 * n);
       z = fillTo (floats 32) (λ i. at i .z) n;
@@ -84,14 +87,15 @@ fieldsOf at n =
       filler = fillTo (replicate 32 0) (λ i. at i .filler) n;
     }
 
--- reception i, out of its fields
-unfoldable pub receptionIn : Fields → ℕ → Reception
-receptionIn f i =
-    record {
-      id = getD (f .id) i noId;
-      time = getD (f .time) i (pos 0);
-      «site_mm» = getD (f .«site_mm») (3 * i) (pos 0) ∷ getD (f .«site_mm») (3 * i + 1) (pos 0) ∷ getD (f .«site_mm») (3 * i + 2) (pos 0) ∷ [];
-      z = nth (f .z) i;
-      «noise_m2» = nth (f .«noise_m2») i;
-      filler = getD (f .filler) i 0;
-    }
+-- the arrays f hold these n receptions; of over 32 none is unpacked
+abbrev pub Holds : Fields → ℕ → (ℕ → Reception) → Type 0
+Holds f n at = n ≤ 32 → f ≡ fieldsOf at n
+
+-- the arrays f hold n receptions
+abbrev pub Filled : Fields → ℕ → Type 0
+Filled f n = (at : ℕ → Reception) × Holds f n at
+
+-- the three coordinates of site i
+abbrev pub siteIn : List ℤ → ℕ → List ℤ
+siteIn sites i =
+    getD sites (3 * i) (pos 0) ∷ getD sites (3 * i + 1) (pos 0) ∷ getD sites (3 * i + 2) (pos 0) ∷ []

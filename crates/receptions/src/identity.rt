@@ -1,5 +1,7 @@
 // The order of identities, by their four fields in turn: as Rust derives it for `ObservationId` of obs.rs.
 ghost use mathlib.Core.Path.{_≡_};
+ghost use mathlib.Core.Bool.{_||_};
+ghost use lib.Dec.{eqb};
 ghost use Rattle.receptions.specs.Identities as identities;
 use crate::ObservationId;
 
@@ -75,7 +77,7 @@ fn compare(a: ObservationId, b: ObservationId) -> Ordering
 }
 
 // Whether a comes before b.
-pub fn before(a: ObservationId, b: ObservationId) -> bool
+fn before(a: ObservationId, b: ObservationId) -> bool
     ensures { λ r. ⌜ r ≡ identities.before a b ⌝ }
 {
     let found = compare(a, b);
@@ -84,4 +86,14 @@ pub fn before(a: ObservationId, b: ObservationId) -> bool
         Ordering::Equal => false,
         Ordering::Greater => false,
     }
+}
+
+// Whether the identity of reception i is above the last; the first has none before it.
+pub fn ascends(last: ObservationId, id: ObservationId, i: usize) -> bool
+    ensures { λ r. ⌜ r ≡ (eqb i 0 || identities.before last id) ⌝ }
+{
+    if i == 0 {
+        return true;
+    }
+    before(last, id)
 }

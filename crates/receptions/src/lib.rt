@@ -1,13 +1,14 @@
 // Receptions, unpacked into arrays by field: those of receptions.bin, and those of a caller's list.
 mod identity;
 
-pub use identity::before;
 ghost use mathlib.Core.Path.{_≡_};
-ghost use Prim.Native.Nat.{_+_, _*_, _<_, _≤_};
+ghost use mathlib.Core.Bool.{cond};
+ghost use Prim.Native.Nat.{_+_, _*_, _^_, _<_, _≤_};
 ghost use lib.IntN.{pos};
 ghost use lib.ListN.{length, set, getD};
 ghost use Rattle.receptions.specs.Receptions.{receptionBytes, blankId, partAt, idAt, receptionAt};
 ghost use Rattle.receptions.specs.Receptions.{listedAt, fieldsOf};
+use identity::ascends;
 
 // `ObservationId` of the source: which message, at which receiver.
 #[repr(C)]
@@ -30,9 +31,11 @@ pub struct Reception {
     pub filler: u64,
 }
 
-// The receptions by field, the three coordinates of a site one after the other, and zeros past them.
+// The receptions by field, the three coordinates of a site one after the other, and zeros past them. Of the
+// identities their order is kept: bit i of `ascending` is set where reception i's is above the one before, and
+// bit 0 where there is a first.
 pub struct Fields {
-    pub id: [ObservationId; 32],
+    pub ascending: u32,
     pub time: [i64; 32],
     pub site_mm: [i64; 96],
     pub z: [f64; 32],
@@ -76,7 +79,8 @@ fn blank() -> [Reception; 32]
 
 fn put_site(out: &mut [i64; 96], i: usize, site: [i64; 3])
     requires { ⌜ i < 32 ⌝ }
-    ensures { λ _. ⌜ now (out .exit) ≡ set (set (set (now (out .entry)) (3 * i) (getD site 0 (pos 0))) (3 * i + 1) (getD site 1 (pos 0))) (3 * i + 2) (getD site 2 (pos 0)) ⌝ }
+    ensures { λ _. ⌜ now (out .exit) ≡ set (set (set (now (out .entry)) (3 * i) (getD site 0 (pos 0))) (3 * i + 1)
+        (getD site 1 (pos 0))) (3 * i + 2) (getD site 2 (pos 0)) ⌝ }
 {
     let at = 3 * i;
     out[at] = site[0];
@@ -84,32 +88,44 @@ fn put_site(out: &mut [i64; 96], i: usize, site: [i64; 3])
     out[at + 2] = site[2];
 }
 
+// The bits of the receptions before i, and that of reception i.
+fn marked(bits: u32, i: usize, above: bool) -> u32
+    requires { ⌜ (i < 32) × (bits < 2 ^ i) ⌝ }
+    ensures { λ r. ⌜ r ≡ cond above 1 0 * 2 ^ i + bits ⌝ }
+{
+    if above {
+        return (1u32 << i) + bits;
+    }
+    bits
+}
+
 // The first n receptions of a list, by field.
 fn by_field(list: [Reception; 32], n: usize) -> Fields
     requires { ⌜ n ≤ 32 ⌝ }
     ensures { λ r. ⌜ r ≡ fieldsOf (listedAt list) n ⌝ }
 {
-    let none = blank_id();
-    let mut id = [none; 32];
+    let mut last = blank_id();
+    let mut ascending = 0u32;
     let mut time = [0i64; 32];
     let mut site_mm = [0i64; 96];
     let mut z = [0.0; 32];
     let mut noise_m2 = [0.0; 32];
     let mut filler = [0u64; 32];
     for i in 0..n {
-        let r = list[i];
-        let who = r.id;
-        let t = r.time;
-        let site = r.site_mm;
-        id[i] = who;
-        time[i] = t;
-        put_site(&mut site_mm, i, site);
-        z[i] = r.z;
-        noise_m2[i] = r.noise_m2;
-        filler[i] = r.filler;
+        let item = list[i];
+        let who = item.id;
+        let when = item.time;
+        let place = item.site_mm;
+        ascending = marked(ascending, i, ascends(last, who, i));
+        last = who;
+        time[i] = when;
+        put_site(&mut site_mm, i, place);
+        z[i] = item.z;
+        noise_m2[i] = item.noise_m2;
+        filler[i] = item.filler;
     }
     Fields {
-        id,
+        ascending,
         time,
         site_mm,
         z,
@@ -169,11 +185,34 @@ pub fn of_bytes(receptions: &[u8], n: usize) -> Fields
     requires { ⌜ (receptionBytes * n ≤ length (now receptions)) × (n ≤ 32) ⌝ }
     ensures { λ r. ⌜ r ≡ fieldsOf (receptionAt (now (receptions .entry))) n ⌝ }
 {
-    let mut list = blank();
+    let mut last = blank_id();
+    let mut ascending = 0u32;
+    let mut time = [0i64; 32];
+    let mut site_mm = [0i64; 96];
+    let mut z = [0.0; 32];
+    let mut noise_m2 = [0.0; 32];
+    let mut filler = [0u64; 32];
     for i in 0..n {
-        list[i] = reception_at(receptions, i);
+        let r = reception_at(receptions, i);
+        let id = r.id;
+        let t = r.time;
+        let site = r.site_mm;
+        ascending = marked(ascending, i, ascends(last, id, i));
+        last = id;
+        time[i] = t;
+        put_site(&mut site_mm, i, site);
+        z[i] = r.z;
+        noise_m2[i] = r.noise_m2;
+        filler[i] = r.filler;
     }
-    by_field(list, n)
+    Fields {
+        ascending,
+        time,
+        site_mm,
+        z,
+        noise_m2,
+        filler,
+    }
 }
 
 // The first n receptions of a caller's list.

@@ -1,20 +1,13 @@
 -- The verdict and the states by their parts: of an answer, of inputs that are turned away, and of a problem. Assumes nothing.
-use Prim.Native.Nat.{ℕ, _≤_}
-use mathlib.Core.Path.{_≡_, refl, ap, ap₂, sym, _∙_}
-use mathlib.Core.Bool.{Bool}
+use Prim.Native.Nat.{ℕ}
+use mathlib.Core.Path.{_≡_, ap, ap₂, sym, _∙_}
 use mathlib.Core.List.{List}
 use Rattle.problem.specs.declared.Problem.{Problem}
-use Rattle.receptions.specs.declared.Reception.{Reception}
-use Rattle.receptions.specs.declared.Fields.{Fields}
-use Rattle.receptions.specs.Receptions.{fieldsOf, receptionIn}
-use Rattle.inputs.specs.declared.Given.{Given}
 use Rattle.inputs.specs.declared.Fault.{Fault}
 use Rattle.inputs.specs.declared.Check.{Check}
 use Rattle.inputs.specs.declared.Check.the-variants.{Passed, Refused}
 use Rattle.inputs.specs.Faults.{numberOf, detailOf}
-use Rattle.inputs.specs.Inputs.{Inputs, inputsOf, checkInputs, problemOf}
-use Rattle.inputs.proofs.Order.{few}
-use Rattle.inputs.proofs.Alike.{same-check, same-problem}
+use Rattle.inputs.specs.Inputs.{Inputs, checkInputs, problemOf}
 use Rattle.record.specs.declared.content.Fix.{Fix}
 use Rattle.rounds.specs.declared.answer.Answer as code
 use Rattle.rounds.specs.declared.answer.Case.{Case}
@@ -58,39 +51,3 @@ module _ (I : Inputs) (k : Check) (K : k ≡ checkInputs I) where
     pub passed-states : (out after : List ℕ) → after ≡ statesOf p (solveProblem p) out → after ≡ states I out
     unfolding states
     passed-states out after h = h ∙ ap (λ (q : Problem). statesOf q (solveProblem q) out) P ∙ ap (λ (c : Check). statesBy c I out) (sym e ∙ K)
-
--- ---- arrays by field get what the receptions get that they were filled from
-module _ (f : Fields) (n : ℕ) (at : ℕ → Reception) (filled : n ≤ 32 → f ≡ fieldsOf at n) (whole : Bool) (g : Given) (clock alt ref : List ℕ) where
-  abbrev I : Inputs
-  I = inputsOf whole n (receptionIn f) g clock alt ref
-
-  abbrev J : Inputs
-  J = inputsOf whole n at g clock alt ref
-
-  check : checkInputs I ≡ checkInputs J
-  check = same-check f n at filled whole g clock alt ref
-
-  problem : checkInputs J ≡ Passed → problemOf I ≡ problemOf J
-  problem e = same-problem f n at filled whole g clock alt ref (few J e)
-
-  pub same-verdict : verdict I ≡ verdict J
-  unfolding verdict
-  same-verdict = go (checkInputs J) refl
-    where
-      go : (c : Check) → checkInputs J ≡ c → verdictBy (checkInputs I) I ≡ verdictBy (checkInputs J) J
-      go (Refused fault) e = ap (λ (c : Check). verdictBy c I) (check ∙ e) ∙ sym (ap (λ (c : Check). verdictBy c J) e)
-      go Passed e =
-          ap (λ (c : Check). verdictBy c I) (check ∙ e)
-          ∙ ap (λ (p : Problem). verdictOf (solveProblem p)) (problem e)
-          ∙ sym (ap (λ (c : Check). verdictBy c J) e)
-
-  pub same-states : (out : List ℕ) → states I out ≡ states J out
-  unfolding states
-  same-states out = go (checkInputs J) refl
-    where
-      go : (c : Check) → checkInputs J ≡ c → statesBy (checkInputs I) I out ≡ statesBy (checkInputs J) J out
-      go (Refused fault) e = ap (λ (c : Check). statesBy c I out) (check ∙ e) ∙ sym (ap (λ (c : Check). statesBy c J out) e)
-      go Passed e =
-          ap (λ (c : Check). statesBy c I out) (check ∙ e)
-          ∙ ap (λ (p : Problem). statesOf p (solveProblem p) out) (problem e)
-          ∙ sym (ap (λ (c : Check). statesBy c J out) e)

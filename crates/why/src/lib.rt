@@ -2,7 +2,8 @@
 ghost use mathlib.Core.Path.{_≡_};
 ghost use Prim.Native.Nat.{ℕ, _+_, _*_, _≤_, _<_};
 ghost use lib.ListN.{length};
-ghost use Rattle.receptions.specs.Receptions.{fieldsOf, receptionIn};
+ghost use Rattle.receptions.specs.declared.Reception as reception;
+ghost use Rattle.receptions.specs.Receptions.{Holds, Filled};
 ghost use Rattle.inputs.specs.Inputs.{inputsOf};
 ghost use Rattle.record.specs.declared.content.Fix as content;
 ghost use Rattle.record.specs.Record.{written};
@@ -185,11 +186,12 @@ fn asked(
     present: u32,
     out: &mut [u8],
 ) -> Verdict
-    requires { ⌜ (n ≤ 32 → f ≡ fieldsOf (receptionIn f) n) × (640 ≤ length (now out)) ⌝ }
-    ensures verdict { λ r. ⌜ r ≡ why.verdict (inputsOf whole n (receptionIn f) (reply.given present)
-        (now (clock .entry)) (now (altitude .entry)) (now (reference .entry))) ⌝ }
-    ensures states { λ _. ⌜ now (out .exit) ≡ why.states (inputsOf whole n (receptionIn f) (reply.given present)
-        (now (clock .entry)) (now (altitude .entry)) (now (reference .entry))) (now (out .entry)) ⌝ }
+    requires { ⌜ Filled f n × (640 ≤ length (now out)) ⌝ }
+    ensures verdict { λ r. ⌜ ((at : ℕ → reception.Reception) → Holds f n at → r ≡ why.verdict (inputsOf whole n at
+        (reply.given present) (now (clock .entry)) (now (altitude .entry)) (now (reference .entry)))) ⌝ }
+    ensures states { λ _. ⌜ ((at : ℕ → reception.Reception) → Holds f n at → now (out .exit) ≡ why.states (inputsOf whole
+        n at (reply.given present) (now (clock .entry)) (now (altitude .entry)) (now (reference .entry)))
+        (now (out .entry))) ⌝ }
 {
     let g = entry::given(present);
     let found = inputs::check_inputs(f, whole, n, g, clock, altitude, reference);

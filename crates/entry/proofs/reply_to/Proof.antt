@@ -2,7 +2,8 @@
 use borrow.Author.Needs.{needs}
 use mathlib.Core.Path.{_≡_, sym, ap, _∙_}
 use native.Mathlib.Omega.{arith}
-use Rattle.receptions.specs.Receptions.{receptionIn}
+use Prim.Native.Nat.{ℕ}
+use Rattle.receptions.specs.declared.Reception.{Reception}
 use Rattle.inputs.specs.declared.Given.{Given}
 use Rattle.inputs.specs.declared.Check.the-variants.{Passed}
 use Rattle.inputs.specs.Inputs.{Inputs, inputsOf, checkInputs}
@@ -13,8 +14,8 @@ use Rattle.entry.proofs.Replies.{is-passed, many-away, came-whole, torn
 use Rattle.entry.proofs.reply_to.Statement.{statement}
 use Rattle.entry.proofs.reply_to.Tie as tie
 
-abbrev lent : tie.Start → Given → Inputs
-lent s g = inputsOf (s .args .whole) (s .args .n) (receptionIn (s .args .f)) g (s .args .clock .now) (s .args .altitude .now) (s .args .reference .now)
+abbrev lent : tie.Start → (ℕ → Reception) → Given → Inputs
+lent s at g = inputsOf (s .args .whole) (s .args .n) at g (s .args .clock .now) (s .args .altitude .now) (s .args .reference .now)
 
 given-requires : tie.Need-given-requires
 given-requires c κs = search needs
@@ -26,7 +27,10 @@ enum-known-found : tie.Need-enum-known-found
 enum-known-found c = search needs
 
 turned-away-requires : tie.Need-turned-away-requires
-turned-away-requires c κs = many-away (lent ((c .before .before .before .before .before .before .before .before)) (c .before .before .before .before .given .result)) _ (sym (c .before .before .before .check-inputs .ensures) ∙ c .before .found .given .1)
+turned-away-requires c κs =
+    let s = c .before .before .before .before .before .before .before .before in
+    let check = c .before .before .before .check-inputs in
+    many-away (lent s (s .pre .0) (c .before .before .before .before .given .result)) _ (sym (check .ensures (s .pre .0) (s .pre .1)) ∙ c .before .found .given .1)
 
 enum-told : tie.Need-enum-told
 enum-told c = search needs
@@ -34,27 +38,50 @@ enum-told c = search needs
 problem-of-requires : tie.Need-problem-of-requires
 problem-of-requires c κs =
     let s = c .before .before .before .before .before .before .before in
-    let e : checkInputs (lent s (c .before .before .before .given .result)) ≡ Passed = sym (c .before .before .check-inputs .ensures) ∙ is-passed (c .before .before .check-inputs .result) (c .before .match .keys2) in
-    (s .pre (few _ e), came-whole (lent s (c .before .before .before .given .result)) e)
+    let check = c .before .before .check-inputs in
+    let I = lent s (s .pre .0) (c .before .before .before .given .result) in
+    let e : checkInputs I ≡ Passed = sym (check .ensures (s .pre .0) (s .pre .1)) ∙ is-passed (check .result) (c .before .match .keys2) in
+    (s .pre .0, (s .pre .1 (few I e), came-whole I e))
 
 cast-answered : tie.Need-cast-answered
-cast-answered c = record { fits = let h = few (lent ((c .before .before .before .before .before .before .before .before)) (c .before .before .before .before .given .result)) (sym (c .before .before .before .check-inputs .ensures) ∙ is-passed (c .before .before .before .check-inputs .result) (c .before .before .match .keys2)) in omega arith }
+cast-answered c =
+    let s = c .before .before .before .before .before .before .before .before in
+    let check = c .before .before .before .check-inputs in
+    let I = lent s (s .pre .0) (c .before .before .before .before .given .result) in
+    let h = few I (sym (check .ensures (s .pre .0) (s .pre .1)) ∙ is-passed (check .result) (c .before .before .match .keys2)) in
+    record { fits = omega arith }
 
 solve-problem-requires : tie.Need-solve-problem-requires
-solve-problem-requires c κs = search needs
+solve-problem-requires c κs =
+    let s = c .before .before .before .before .before .before .before .before in
+    let check = c .before .before .before .check-inputs in
+    let I = lent s (s .pre .0) (c .before .before .before .before .given .result) in
+    let small = few I (sym (check .ensures (s .pre .0) (s .pre .1)) ∙ is-passed (check .result) (c .before .before .match .keys2)) in
+    c .problem-of .ensures (s .pre .0) (s .pre .1 small) .inDomain .few
 
 answered-requires : tie.Need-answered-requires
 answered-requires c κs = search needs
 
 returns : tie.Need-returns
-returns c =
-    refused-reply (lent ((c .before .before .before .before .before .before .before .before .before)) (c .before .before .before .before .before .given .result)) (c .before .before .before .before .check-inputs .result) (c .before .before .before .before .check-inputs .ensures) (c .turned-away .result) _ (c .before .before .found .given .1) (c .turned-away .ensures)
-    ∙ ap (λ (g : Given). reply (lent ((c .before .before .before .before .before .before .before .before .before)) g)) (c .before .before .before .before .before .given .ensures)
+returns c = λ at held.
+    let s = c .before .before .before .before .before .before .before .before .before in
+    let given = c .before .before .before .before .before in
+    let check = c .before .before .before .before .check-inputs in
+    refused-reply (lent s at (given .given .result)) (check .result) (check .ensures at held) (c .turned-away .result) _ (c .before .before .found .given .1) (c .turned-away .ensures)
+    ∙ ap (λ (g : Given). reply (lent s at g)) (given .given .ensures)
 
 returns-2 : tie.Need-returns-2
-returns-2 c =
-    problem-reply (lent ((c .before .before .before .before .before .before .before .before .before .before)) (c .before .before .before .before .before .before .given .result)) (c .before .before .before .before .before .check-inputs .result) (c .before .before .before .before .before .check-inputs .ensures) (c .answered .result) (c .before .before .problem-of .result) (is-passed (c .before .before .before .before .before .check-inputs .result) (c .before .before .before .before .match .keys2)) (c .before .before .problem-of .ensures .0 ∙ torn-or-whole (lent ((c .before .before .before .before .before .before .before .before .before .before)) (c .before .before .before .before .before .before .given .result))) (c .answered .ensures (solveProblem (c .before .before .problem-of .result)) (c .before .solve-problem .ensures))
-    ∙ ap (λ (g : Given). reply (lent ((c .before .before .before .before .before .before .before .before .before .before)) g)) (c .before .before .before .before .before .before .given .ensures)
+returns-2 c = λ at held.
+    let s = c .before .before .before .before .before .before .before .before .before .before in
+    let given = c .before .before .before .before .before .before in
+    let check = c .before .before .before .before .before .check-inputs in
+    let p = c .before .before .problem-of in
+    let I = lent s at (given .given .result) in
+    let passes = is-passed (check .result) (c .before .before .before .before .match .keys2) in
+    let small = few I (sym (check .ensures at held) ∙ passes) in
+    problem-reply I (check .result) (check .ensures at held) (c .answered .result) (p .result) passes
+    (p .ensures at (held small) .problem ∙ torn-or-whole I) (c .answered .ensures (solveProblem (p .result)) (c .before .solve-problem .ensures))
+    ∙ ap (λ (g : Given). reply (lent s at g)) (given .given .ensures)
 
 pub reply-to-spec : {M : Type 1} → statement M
 reply-to-spec =

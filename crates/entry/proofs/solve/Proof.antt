@@ -1,13 +1,10 @@
--- `entry::solve` meets its contract: its receptions by field get the reply of its bytes (`Unpacked`). Assumes nothing.
+-- `entry::solve` meets its contract: its arrays hold the receptions of its bytes (`few-held`). Assumes nothing.
 use borrow.Author.Needs.{needs}
-use mathlib.Core.Path.{ap, _∙_}
 use Prim.Native.Nat.{_/_}
 use native.Mathlib.Omega.{arith}
 use lib.ListN.{length}
-use Rattle.receptions.specs.Receptions.{receptionBytes, fieldsOf, receptionAt}
-use Rattle.inputs.proofs.Alike.{nothing-else}
-use Rattle.entry.specs.Reply.{given}
-use Rattle.entry.proofs.Unpacked.{few-all, few-within, solved}
+use Rattle.receptions.specs.Receptions.{receptionBytes, receptionAt}
+use Rattle.entry.proofs.Unpacked.{few-within, few-held}
 use Rattle.entry.proofs.solve.Statement.{statement}
 use Rattle.entry.proofs.solve.Tie as tie
 
@@ -21,16 +18,18 @@ of-bytes-requires c κs =
     (omega (arith, w .0), w .1)
 
 solve-fields-requires : tie.Need-solve-fields-requires
-solve-fields-requires c κs = nothing-else (c .before .of-bytes .result) _ (receptionAt (c .before .before .before .before .before .before .before .before .args .receptions .now)) (λ h. c .before .of-bytes .ensures ∙ ap (fieldsOf (receptionAt (c .before .before .before .before .before .before .before .before .args .receptions .now))) (few-all _ _ (c .before .before .few .ensures) h))
+solve-fields-requires c κs =
+    let at = receptionAt (c .before .before .before .before .before .before .before .before .args .receptions .now) in
+    (at, few-held at _ _ (c .before .before .few .ensures) (c .before .of-bytes .ensures))
 
 same-length : tie.Need-same-length
 same-length c = search needs
 
 returns : tie.Need-returns
 returns c =
-    let s = c .before .before .before .before .before .before .before .before .before .before .before in
-    solved (c .before .before .before .before .of-bytes .result) _ (receptionAt (s .args .receptions .now)) (λ h. c .before .before .before .before .of-bytes .ensures ∙ ap (fieldsOf (receptionAt (s .args .receptions .now))) (few-all _ _ (c .before .before .before .before .before .few .ensures) h))
-    _ (given (s .args .present)) (s .args .clock .now) (s .args .altitude .now) (s .args .reference .now) (s .args .out .now) _ (c .before .before .solve-fields .result) (c .before .before .solve-fields .ensures)
+    let at = receptionAt (c .before .before .before .before .before .before .before .before .before .before .before .args .receptions .now) in
+    c .before .before .solve-fields .ensures at
+    (few-held at _ _ (c .before .before .before .before .before .few .ensures) (c .before .before .before .before .of-bytes .ensures))
 
 pub solve-spec : {M : Type 1} → statement M
 solve-spec =

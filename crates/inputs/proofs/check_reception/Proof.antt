@@ -7,9 +7,6 @@ use Rattle.inputs.proofs.check_reception.Tie as tie
 cast-place : tie.Need-cast-place
 cast-place c = search needs
 
-good-reception-requires : tie.Need-good-reception-requires
-good-reception-requires c κs = search needs
-
 unless-requires : tie.Need-unless-requires
 unless-requires c κs = search needs
 
@@ -20,14 +17,13 @@ or-else-requires : tie.Need-or-else-requires
 or-else-requires c κs = search needs
 
 returns : tie.Need-returns
-returns c = c .or-else .ensures ∙ rw (c .before .before .unless .ensures, c .before .unless2 .ensures, c .before .before .before .good-reception .ensures)
+returns c = c .or-else .ensures ∙ rw (c .before .before .unless .ensures, c .before .unless2 .ensures)
 
 pub check-reception-spec : {M : Type 1} → statement M
 check-reception-spec =
     tie.close
     (tie.spec
     cast-place
-    good-reception-requires
     unless-requires
     unless-requires-2
     or-else-requires

@@ -3,17 +3,17 @@ use borrow.Author.Needs.{needs}
 use mathlib.Core.Path.{_≡_, refl}
 use Prim.Native.Nat.{_-_, _≤_}
 use native.Mathlib.Omega.{arith}
-use Rattle.receptions.specs.Receptions.{fillTo, receptionIn}
-use Rattle.inputs.specs.Inputs.{metresOf}
+use Rattle.receptions.specs.Receptions.{fillTo}
+use Rattle.inputs.proofs.Held.{metresIn}
 use Rattle.inputs.proofs.Steps.{metres-next}
 use Rattle.inputs.proofs.metres_of.Statement.{statement}
 use Rattle.inputs.proofs.metres_of.Tie as tie
 
 abbrev Inv-loop : tie.InvT-loop
-Inv-loop n f out₀ i₀ out i = (i ≤ n) × (out ≡ metresOf (receptionIn f) i)
+Inv-loop mm n out₀ i₀ out i = (i ≤ n) × (out ≡ metresIn mm i)
 
 abbrev μ-loop : tie.MeasureT-loop
-μ-loop n f out₀ i₀ out i = n - i
+μ-loop mm n out₀ i₀ out i = n - i
 
 loop-holds : tie.Need-loop-holds Inv-loop μ-loop
 unfolding fillTo
@@ -35,10 +35,9 @@ loop-less : tie.Need-loop-less Inv-loop μ-loop
 loop-less c = omega arith
 
 loop-again : tie.Need-loop-again Inv-loop μ-loop
-unfolding receptionIn
 loop-again c =
-    let turn = c .before .before .before .before .before .before .before in
-    (omega arith, metres-next (turn .before .args .t1) (turn .loop .i) (turn .loop .inv .1) (c .before .before .before .site-in .ensures) (c .before .from-mm .ensures) (c .put-metres .ensures))
+    let turn = c .before .before .before .before .before in
+    (omega arith, metres-next (turn .before .args .mm .now) (turn .loop .i) (turn .loop .inv .1) (c .before .before .before .site-in .ensures) (c .before .from-mm .ensures) (c .put-metres .ensures))
 
 returns : tie.Need-returns Inv-loop μ-loop
 returns c = let e : c .before .loop .i ≡ c .before .before .args .n = omega arith in rw e at (c .before .loop .inv .1)

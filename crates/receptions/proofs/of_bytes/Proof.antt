@@ -1,33 +1,70 @@
--- `receptions::of_bytes` meets its contract: each turn puts the next reception into the list (`begins-next`), whose fields are then those of the receptions (`fields-same`). Assumes nothing.
+-- `receptions::of_bytes` meets its contract: each turn stores the next reception's fields and its bit (`fields-next`). Assumes nothing.
 use borrow.Author.Needs.{needs}
-use mathlib.Core.Path.{_∙_}
+use mathlib.Core.Path.{_≡_, refl, ap, _∙_}
 use Prim.Native.Nat.{_-_, _≤_}
 use native.Mathlib.Omega.{arith}
-use Rattle.receptions.specs.Receptions.{receptionAt, listedAt}
-use Rattle.receptions.proofs.Unpacked.{Begins, begins-next, fields-same}
+use mir.Syntax.{w64}
+use mir.ValLaws.{toZ-ofZ}
+use Rattle.sets.specs.Mask.{maskOf}
+use Rattle.receptions.specs.declared.Reception.{Reception}
+use Rattle.receptions.specs.Receptions.{receptionAt, fillTo, fieldsOf}
+use Rattle.receptions.proofs.Unpacked.{lastOf, last-next, bits-lt, fields-next}
 use Rattle.receptions.proofs.of_bytes.Statement.{statement}
 use Rattle.receptions.proofs.of_bytes.Tie as tie
 
 abbrev Inv-loop : tie.InvT-loop
-Inv-loop receptions n list₀ i₀ list i = (i ≤ n) × Begins (receptionAt receptions) i list
+Inv-loop receptions n last₀ ascending₀ time₀ site-mm₀ z₀ noise-m2₀ filler₀ i₀ last ascending time site-mm z noise-m2 filler i =
+    (i ≤ n)
+    × ((last ≡ lastOf (receptionAt receptions) i)
+    × (record { ascending = ascending; time = time; «site_mm» = site-mm; z = z; «noise_m2» = noise-m2; filler = filler } ≡ fieldsOf (receptionAt receptions) i))
 
 abbrev μ-loop : tie.MeasureT-loop
-μ-loop receptions n list₀ i₀ list i = n - i
+μ-loop receptions n last₀ ascending₀ time₀ site-mm₀ z₀ noise-m2₀ filler₀ i₀ last ascending time site-mm z noise-m2 filler i = n - i
 
-blank-requires : tie.Need-blank-requires Inv-loop μ-loop
-blank-requires c κs = search needs
+blank-id-requires : tie.Need-blank-id-requires Inv-loop μ-loop
+blank-id-requires c κs = search needs
 
 loop-holds : tie.Need-loop-holds Inv-loop μ-loop
-loop-holds c = (omega arith, (c .blank .ensures, λ k l. absurd (omega arith)))
+unfolding fieldsOf fillTo maskOf
+loop-holds c = (omega arith, (c .blank-id .ensures, refl))
 
 reception-at-requires : tie.Need-reception-at-requires Inv-loop μ-loop
 reception-at-requires c κs = search needs
 
-mul-list : tie.Need-mul-list Inv-loop μ-loop
-mul-list c = search needs
+ascends-requires : tie.Need-ascends-requires Inv-loop μ-loop
+ascends-requires c κs = search needs
 
-array-set-from-list : tie.Need-array-set-from-list Inv-loop μ-loop
-array-set-from-list c = search needs
+marked-requires : tie.Need-marked-requires Inv-loop μ-loop
+marked-requires c κs =
+    let turn = c .before .before .before .before .before .before in
+    (omega arith, bits-lt (receptionAt (turn .before .before .before .args .receptions .now)) (turn .loop .i) (turn .loop .inv .1 .1))
+
+mul-time : tie.Need-mul-time Inv-loop μ-loop
+mul-time c = search needs
+
+array-set-from-time : tie.Need-array-set-from-time Inv-loop μ-loop
+array-set-from-time c = search needs
+
+put-site-requires : tie.Need-put-site-requires Inv-loop μ-loop
+put-site-requires c κs = search needs
+
+mul-z : tie.Need-mul-z Inv-loop μ-loop
+mul-z c = search needs
+
+array-write-z : tie.Need-array-write-z Inv-loop μ-loop
+array-write-z c = search needs
+
+mul-noise-m2 : tie.Need-mul-noise-m2 Inv-loop μ-loop
+mul-noise-m2 c = search needs
+
+array-write-noise-m2 : tie.Need-array-write-noise-m2 Inv-loop μ-loop
+array-write-noise-m2 c = search needs
+
+mul-filler : tie.Need-mul-filler Inv-loop μ-loop
+mul-filler c = search needs
+
+array-write-filler : tie.Need-array-write-filler Inv-loop μ-loop
+array-write-filler c = search needs
 
 add-i : tie.Need-add-i Inv-loop μ-loop
 add-i c = search needs
@@ -37,17 +74,25 @@ loop-less c = omega arith
 
 loop-again : tie.Need-loop-again Inv-loop μ-loop
 loop-again c =
-    let turn = c .before .before in
-    (omega arith, begins-next (receptionAt (turn .before .before .before .args .receptions .now)) (turn .loop .i) (turn .loop .list) (turn .loop .inv .1) (omega arith) (c .reception-at .ensures))
-
-by-field-requires : tie.Need-by-field-requires Inv-loop μ-loop
-by-field-requires c κs = search needs
+    let marked = c .before .before in
+    let ascends = marked .before in
+    let told = ascends .before .before in
+    let read = told .before .before in
+    let turn = read .before .before in
+    let at = receptionAt (turn .before .before .before .args .receptions .now) in
+    let i = turn .loop .i in (
+      omega arith,
+      (
+        ap (λ (r : Reception). r .id) (read .reception-at .ensures) ∙ last-next at i,
+        rw (toZ-ofZ w64 (read .reception-at .result .time) (record { sfits = told .struct-told .given .1 .0 .1 }), c .put-site .ensures)
+            (fields-next at i (turn .loop .inv .1 .1) (read .reception-at .ensures) (turn .loop .inv .1 .0) (ascends .ascends .ensures) (marked .marked .ensures)),
+      ),
+    )
 
 returns : tie.Need-returns Inv-loop μ-loop
 returns c =
-    let filled = c .before .before in
-    let a = filled .before .before .before .args in
-    c .by-field .ensures ∙ fields-same (listedAt (filled .loop .list)) (receptionAt (a .receptions .now)) (a .n) (λ k l. filled .loop .inv .1 .1 k (omega arith))
+    let e : c .before .loop .i ≡ c .before .before .before .before .args .n = omega arith in
+    rw e at (c .before .loop .inv .1 .1)
 
 pub of-bytes-spec : {M : Type 1} → statement M
 of-bytes-spec =
@@ -55,13 +100,21 @@ of-bytes-spec =
     (tie.spec
     Inv-loop
     μ-loop
-    blank-requires
+    blank-id-requires
     loop-holds
     reception-at-requires
-    mul-list
-    array-set-from-list
+    ascends-requires
+    marked-requires
+    mul-time
+    array-set-from-time
+    put-site-requires
+    mul-z
+    array-write-z
+    mul-noise-m2
+    array-write-noise-m2
+    mul-filler
+    array-write-filler
     add-i
     loop-less
     loop-again
-    by-field-requires
     returns)

@@ -6,19 +6,17 @@ use mathlib.Core.List.{List}
 use Prim.Native.Nat.{ℕ, _/_, _%_}
 use lib.Dec.{eqb}
 use lib.ListN.{length}
-use Rattle.receptions.specs.declared.Fields.{Fields}
-use Rattle.receptions.specs.Receptions.{receptionBytes, receptionAt, receptionIn}
+use Rattle.receptions.specs.Receptions.{receptionBytes, receptionAt}
 use Rattle.inputs.specs.declared.Check.the-variants.{Passed}
 use Rattle.inputs.specs.Inputs.{Inputs, inputsOf, checkInputs}
 use Rattle.inputs.proofs.Order.{is-passed, is-whole, few}
-use Rattle.inputs.proofs.Alike.{nothing-else}
 use Rattle.test_inputs.proofs.answered.Statement.{statement}
 use Rattle.test_inputs.proofs.answered.Tie as tie
 
-abbrev lent : tie.Start → Fields → Bool → Inputs
-lent s f whole =
+abbrev lent : tie.Start → Bool → Inputs
+lent s whole =
     let a = s .args in
-    inputsOf whole (length (a .receptions .now) / receptionBytes) (receptionIn f) (a .g) (a .clock .now) (a .altitude .now) (a .reference .now)
+    inputsOf whole (length (a .receptions .now) / receptionBytes) (receptionAt (a .receptions .now)) (a .g) (a .clock .now) (a .altitude .now) (a .reference .now)
 
 unpacked-requires : tie.Need-unpacked-requires
 unpacked-requires c κs = search needs
@@ -39,12 +37,12 @@ problem-of-requires : tie.Need-problem-of-requires
 problem-of-requires c κs =
     let s : tie.Start = c .before .before .before .before .before .before .before .before in
     let bytes : List ℕ = s .args .receptions .now in
-    let f : Fields = c .before .before .before .unpacked .result in
-    let given : Inputs = lent s f (eqb (length bytes % receptionBytes) 0) in
-    let e : checkInputs given ≡ Passed = sym (c .before .before .check-inputs .ensures) ∙ is-passed (c .before .before .check-inputs .result) (c .before .match .keys2) in
-    let n = length bytes / receptionBytes in
-    let passed = subst (λ (w : Bool). checkInputs (lent s f w) ≡ Passed) (is-whole given e) e in
-    (nothing-else f n (receptionAt bytes) (c .before .before .before .unpacked .ensures) (few given e), passed)
+    let held = c .before .before .before .unpacked .ensures in
+    let check = c .before .before .check-inputs in
+    let given : Inputs = lent s (eqb (length bytes % receptionBytes) 0) in
+    let e : checkInputs given ≡ Passed = sym (check .ensures (receptionAt bytes) held) ∙ is-passed (check .result) (c .before .match .keys2) in
+    let passed = subst (λ (w : Bool). checkInputs (lent s w) ≡ Passed) (is-whole given e) e in
+    (receptionAt bytes, (held (few given e), passed))
 
 problem-requires : tie.Need-problem-requires
 problem-requires c κs = search needs

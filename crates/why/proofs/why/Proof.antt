@@ -1,16 +1,13 @@
--- `why::why` meets its contract: 14 is tested first, and its receptions by field get what its bytes get (`Verdicts`). Assumes nothing.
+-- `why::why` meets its contract: 14 is tested first, and its arrays hold the receptions of its bytes (`few-held`). Assumes nothing.
 use borrow.Author.Needs.{needs}
-use mathlib.Core.Path.{ap, _∙_}
+use mathlib.Core.Path.{ap}
 use Prim.Native.Nat.{_/_}
 use native.Mathlib.Omega.{arith}
 use borrow.Author.Tests.{lt-ltb, le-ltb}
 use lib.ListN.{length}
-use Rattle.receptions.specs.Receptions.{receptionBytes, fieldsOf, receptionAt}
-use Rattle.inputs.proofs.Alike.{nothing-else}
-use Rattle.entry.specs.Reply.{given}
-use Rattle.entry.proofs.Unpacked.{few-all, few-within}
+use Rattle.receptions.specs.Receptions.{receptionBytes, receptionAt}
+use Rattle.entry.proofs.Unpacked.{few-within, few-held}
 use Rattle.why.specs.declared.Verdict.{Verdict}
-use Rattle.why.proofs.Verdicts.{same-verdict, same-states}
 use Rattle.why.proofs.why.Statement.{statement}
 use Rattle.why.proofs.why.Tie as tie
 
@@ -32,10 +29,7 @@ asked-requires : tie.Need-asked-requires
 asked-requires c κs =
     let s = c .before .before .before .before .before .before .before .before .before in
     let at = receptionAt (s .args .receptions .now) in
-    let f = c .before .of-bytes in (
-      nothing-else (f .result) _ at (λ h. f .ensures ∙ ap (fieldsOf at) (few-all _ _ (c .before .before .few .ensures) h)),
-      c .before .before .before .if1 .left,
-    )
+    ((at, few-held at _ _ (c .before .before .few .ensures) (c .before .of-bytes .ensures)), c .before .before .before .if1 .left)
 
 same-length : tie.Need-same-length
 same-length c = search needs
@@ -45,18 +39,11 @@ returns-2 c =
     let s = c .before .before .before .before .before .before .before .before .before .before .before .before in
     let a = s .args in
     let at = receptionAt (a .receptions .now) in
-    let f = c .before .before .before .before .of-bytes in
     let asked = c .before .before .asked .ensures in
     let enough = le-ltb (length (a .out .now)) 640 (c .before .before .before .before .before .before .if1 .left) in
-    let few = c .before .before .before .before .before .few .ensures in
-    let verdict =
-    asked .0
-    ∙ same-verdict (f .result) _ at (λ h. f .ensures ∙ ap (fieldsOf at) (few-all _ _ few h)) _ (given (a .present))
-    (a .clock .now) (a .altitude .now) (a .reference .now) in
-    let states =
-    asked .1
-    ∙ same-states (f .result) _ at (λ h. f .ensures ∙ ap (fieldsOf at) (few-all _ _ few h)) _ (given (a .present))
-    (a .clock .now) (a .altitude .now) (a .reference .now) (a .out .now) in
+    let held = few-held at _ _ (c .before .before .before .before .before .few .ensures) (c .before .before .before .before .of-bytes .ensures) in
+    let verdict = asked .0 at held in
+    let states = asked .1 at held in
     (rw enough (ap (λ (v : Verdict). v .number) verdict), (rw enough states, rw enough (ap (λ (v : Verdict). v .detail) verdict)))
 
 pub why-spec : {M : Type 1} → statement M

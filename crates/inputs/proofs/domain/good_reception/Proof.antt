@@ -3,7 +3,7 @@ use borrow.Author.Needs.{needs}
 use mathlib.Core.Path.{_∙_}
 use mir.Syntax.{w64}
 use mir.ValLaws.{toZ-ofZ}
-use Rattle.inputs.specs.Domain.{goodReception, goodZ, goodNoise}
+use Rattle.inputs.specs.Domain.{goodZ, goodNoise}
 use Rattle.inputs.proofs.Limits.{far, micro, tera}
 use Rattle.inputs.proofs.domain.good_reception.Statement.{statement}
 use Rattle.inputs.proofs.domain.good_reception.Tie as tie
@@ -33,11 +33,11 @@ both-requires-4 : tie.Need-both-requires-4
 both-requires-4 c κs = search needs
 
 returns : tie.Need-returns
-unfolding goodReception goodZ goodNoise
+unfolding goodZ goodNoise
 returns c =
-    let measured = c .before .before .before .before in
+    let measured = c .before .before .before in
     let placed = measured .before .before .before in
-    let timed = placed .before .before in
+    let timed = placed .before in
     c .both4 .ensures
     ∙ rw (
       c .before .both3 .ensures,
@@ -47,7 +47,7 @@ returns c =
       measured .before .before .within .ensures,
       placed .good-site .ensures,
       timed .between .ensures,
-      toZ-ofZ w64 (timed .before .before .args .r .time) (record { sfits = timed .before .struct-told .given .1 .0 .1 }),
+      toZ-ofZ w64 (timed .before .args .time) (timed .before .fits .time),
       far,
       micro,
       tera,

@@ -1,7 +1,7 @@
 -- `mlat_solver::mlat_solve_receptions` meets its contract: a walk of its MIR, by hand. `few`, `of_list` and `solve_fields` are called in turn, each with what it asks for. The caller's
--- list is given up to `of_list`, and all else to `solve_fields`, at its own lifetimes, shares and names. The promise of `solve_fields` over the arrays is that over the list (`Unpacked`).
+-- list is given up to `of_list`, and all else to `solve_fields`, at its own lifetimes, shares and names. The promise of `solve_fields` is for the list too, which its arrays hold (`few-held`).
 -- Assumes nothing.
-use mathlib.Core.Path.{_≡_, refl, ap, _∙_}
+use mathlib.Core.Path.{_≡_, refl}
 use mathlib.Core.Bool.{true, cond}
 use mathlib.Core.List.{List, [], _∷_}
 use Prim.Native.Nat.{ℕ, _<_, _≤_, _^_}
@@ -42,13 +42,12 @@ use denote.Triple.Table.{entered, cited}
 use denote.Triple.Walked.{says, Stays, stay-dropped, gave-slice, walkOf, goes-dropped, goes-gave-slice, Walks, ends-at, walked, walk-meets}
 use denote.Triple.Clauses.{Lasts, ensured, lasts}
 use denote.Exit.{yes}
-use Rattle.receptions.specs.Receptions.{listedAt, fieldsOf, receptionIn}
+use Rattle.receptions.specs.Receptions.{listedAt, fieldsOf, Holds, Filled}
 use Rattle.receptions.specs.declared.Reception.{Reception}
 use Rattle.receptions.specs.declared.Fields.{Fields}
 use Rattle.inputs.specs.Inputs.{Inputs, inputsOf}
-use Rattle.inputs.proofs.Alike.{nothing-else}
 use Rattle.entry.specs.Reply.{given, Promise}
-use Rattle.entry.proofs.Unpacked.{few-all, few-within, solved}
+use Rattle.entry.proofs.Unpacked.{few-within, few-held}
 use Rattle.receptions.proofs.Reception as T
 use Rattle.receptions.proofs.Fields as S
 use Rattle.receptions.proofs.Fields.Laws as S′
@@ -163,7 +162,7 @@ module _ {M : Type 1} (𝓤 : URA M) (H : Heap 𝓤) (A : Atoms 𝓤) (W : Given
   abbrev Tokens : Item 𝓤
   Tokens = ‵ (flft κ₁ q₁) ⊛ (‵ (flft κ₂ q₂) ⊛ (‵ (flft κ₃ q₃) ⊛ (‵ (flft κ₄ q₄) ⊛ ‵ ftrue)))
 
-  -- the inputs, with receptions from the list or from arrays
+  -- the inputs, with these receptions
   abbrev From : (ℕ → Reception) → Inputs
   From receptions = inputsOf true n receptions (given present) (now s₁) (now s₂) (now s₃)
 
@@ -213,20 +212,23 @@ module _ {M : Type 1} (𝓤 : URA M) (H : Heap 𝓤) (A : Atoms 𝓤) (W : Given
   abbrev to-fields : Fields → Val → SolveFields 𝓤 H A mem run .Ghost
   to-fields f m = ((κs, (q₁, (q₂, (q₃, (q₄, tt)))), tt, args f, (m ∷ [], (vbool true ∷ [], (vint w64 n ∷ [], Passed .0 .4 .1)))), tt)
 
-  goes-fields : (f : Fields) (m : Val) → n < 2 ^ 64 → (n ≤ 32 → f ≡ fieldsOf (receptionIn f) n) → ent 𝓤 (⋆ 𝓤 H A (Tokens ∷ ‵ Others ∷ ‵ (AR .own f (m ∷ [])) ∷ [])) (SolveFields 𝓤 H A mem run .pre (to-fields f m))
+  goes-fields : (f : Fields) (m : Val) → n < 2 ^ 64 → Filled f n → ent 𝓤 (⋆ 𝓤 H A (Tokens ∷ ‵ Others ∷ ‵ (AR .own f (m ∷ [])) ∷ [])) (SolveFields 𝓤 H A mem run .pre (to-fields f m))
   goes-fields f m gn h = qed W (Tokens ∷ ‵ Others ∷ ‵ (AR .own f (m ∷ [])) ∷ []) ∵ says ! h $ frame ! $
       owned ! usize (Is usize) (uint-makes 𝓤 H A W w64) n _ (refl, gn) $ fjoin ! $ owned ! bool (Is bool) (bool-makes 𝓤 H A W) true _ refl $ fjoin ! $ move ! (1 ∷ 0 ∷ []) $ fjoin ! $ done !
 
   -- what it promises, of the last bytes zs
+  abbrev Promised : Fields → ℕ → List ℕ → Type 0
+  Promised f r zs = (at : ℕ → Reception) → Holds f n at → Promise (From at) ys r zs
+
   abbrev Said : Fields → ℕ → List ℕ → Item 𝓤
-  Said f r zs = (‵ (finally u8 γ zs) ⊛ raw (fact 𝓤 (length zs ≡ length ys))) ⊛ raw (fact 𝓤 (Promise (From (receptionIn f)) ys r zs))
+  Said f r zs = (‵ (finally u8 γ zs) ⊛ raw (fact 𝓤 (length zs ≡ length ys))) ⊛ raw (fact 𝓤 (Promised f r zs))
 
   fields-said : (f : Fields) (r : ℕ) → ent 𝓤 (ensured 𝓤 H A fields.ended (fields.clauses 𝓤 H A mem run) κs (args f) tt r) (ex 𝓤 (λ (zs : List ℕ). mean 𝓤 H A (Said f r zs)))
   fields-said f r =
       exE 𝓤 _ (λ (ends : Lasts fields.ended κs (args f)).
       let zs : List ℕ = ends .1 .1 .1 .1 .1 .1 .1 .0 in
-      qed W (‵ (lasts fields.ended κs (args f) ends) ∷ raw (fact 𝓤 (Promise (From (receptionIn f)) ys r zs)) ∷ []) ∵
-      move ! (1 ∷ []) $ heard ! (Promise (From (receptionIn f)) ys r zs) (λ e.
+      qed W (‵ (lasts fields.ended κs (args f) ends) ∷ raw (fact 𝓤 (Promised f r zs)) ∷ []) ∵
+      move ! (1 ∷ []) $ heard ! (Promised f r zs) (λ e.
       -- nothing is said of the seven before the output
       fsplit ! $ drop ! $ fsplit ! $ drop ! $ fsplit ! $ drop ! $ fsplit ! $ drop ! $ fsplit ! $ drop ! $ fsplit ! $ drop ! $ fsplit ! $ drop ! $ fsplit ! $ fsplit ! $ move ! (1 ∷ []) $ feqL ! (λ l.
       show ! (λ (zs′ : List ℕ). mean 𝓤 H A (Said f r zs′)) zs $ says ! e $ says ! l $ keep ! (0 ∷ []) $ done !)))
@@ -252,27 +254,27 @@ module _ {M : Type 1} (𝓤 : URA M) (H : Heap 𝓤) (A : Atoms 𝓤) (W : Given
           ∷ ‵ (fat fullShare (bytes 2) l₃ 0 (val s₂)) ∷ ‵ (fdies (bytes 2) l₃) ∷ ‵ (fat fullShare (bytes 1) l₂ 0 (val s₁)) ∷ ‵ (fdies (bytes 1) l₂) ∷ ‵ (fat fullShare slice l₁ 0 v) ∷ ‵ (fdies slice l₁) ∷ ‵ (froom half l₀ 0) ∷ ‵ (fdies half l₀) ∷ Γ
 
       -- from where the arrays f are in their local
-      solves : (u : Val) (f : Fields) (m : Val) → (n ≤ 32 → f ≡ fieldsOf (listedAt xs) n)
+      solves : (u : Val) (f : Fields) (m : Val) → Holds f n (listedAt xs)
           → Sq W (‵ (AR .own f (m ∷ [])) ∷ (‵ (flft κ q) ⊛ ‵ ftrue) ∷ Tokens ∷ ‵ Others ∷ ‵ (froom inTy l₁₁ 0) ∷ ‵ (fdies inTy l₁₁) ∷ ‵ (froom at l₁₀ 0) ∷ ‵ (fdies at l₁₀) ∷ ‵ (fat fullShare word l₉ 0 u) ∷ ‵ (fdies word l₉)
           ∷ ‵ (fat fullShare S′.mir l₈ 0 m) ∷ ‵ (fdies S′.mir l₈) ∷ ‵ (fat fullShare word l₇ 0 (vint w64 n)) ∷ ‵ (fdies word l₇) ∷ Params [])
           (runs C Λ En mc.t-4 (atRet En Post))
       solves u f m filled =
           assigns ! (addr ! (from ! (fld ! refl (hop ! (look-in ! 14 (sub ! 0 refl (whole !))) (stop !))))) (from ! (stop !)) (init ! 6 refl (tt, tt)) $
           assigns ! (agg ! (and-then ! (load ! (from ! (stop !)) (look ! 6 refl)) (and-then ! (load ! (from ! (fld ! refl (stop !))) (look-in ! 14 (sub ! 1 refl (whole !)))) (no-more !)))) (from ! (stop !)) (init ! 4 refl (tt, (tt, (record { fits = room₄ .0 }, tt)))) $
-          move ! (2 ∷ 3 ∷ 0 ∷ []) $ use3 W (raw (SolveFields 𝓤 H A mem run .pre (to-fields f m))) (goes-fields f m (room .0) (nothing-else f n (listedAt xs) filled)) $
+          move ! (2 ∷ 3 ∷ 0 ∷ []) $ use3 W (raw (SolveFields 𝓤 H A mem run .pre (to-fields f m))) (goes-fields f m (room .0) (listedAt xs, filled)) $
           -- [what `solve_fields` asks; the list's token; _11; …; _0; …]
           calls-at ! fm (SolveFields 𝓤 H A mem run) known-fields (to-fields f m)
           (and-then ! (load ! (from ! (stop !)) (look ! 8 refl)) (and-then ! (true-lit !) (and-then ! (load ! (from ! (stop !)) (look ! 10 refl)) (and-then ! (load ! (from ! (stop !)) (look ! 20 refl)) (and-then ! (load ! (from ! (stop !)) (look ! 18 refl))
           (and-then ! (load ! (from ! (stop !)) (look ! 16 refl)) (and-then ! (load ! (from ! (stop !)) (look ! 14 refl)) (and-then ! (load ! (from ! (stop !)) (look ! 2 refl)) (no-more !))))))))) (λ z.
           use1 W (later (some (λ (r : ℕ). (Tokens ⊛ ‵ (u32 .own r (z ∷ []))) ⊛ raw (ensured 𝓤 H A fields.ended (fields.clauses 𝓤 H A mem run) κs (args f) tt r)))) (id⊢ 𝓤 _) $ await ! tt $ pick ! (λ r.
-          split ! $ move ! (1 ∷ []) $ use1 W (some (Said f r)) (fields-said f r) $ pick ! (λ zs. split ! $ move ! (1 ∷ []) $ heard ! (Promise (From (receptionIn f)) ys r zs) (λ e. split ! $ move ! (1 ∷ []) $ heard ! (length zs ≡ length ys) (λ l.
+          split ! $ move ! (1 ∷ []) $ use1 W (some (Said f r)) (fields-said f r) $ pick ! (λ zs. split ! $ move ! (1 ∷ []) $ heard ! (Promised f r zs) (λ e. split ! $ move ! (1 ∷ []) $ heard ! (length zs ≡ length ys) (λ l.
           move ! (1 ∷ []) $ split ! $ move ! (1 ∷ []) $ peeks ! u32 (Is u32) (shows 𝓤 H A u32) r (z ∷ []) (λ is.
           -- [the result; the other tokens; the last bytes; the list's token; _11; …; _0; …]
           land ! (from ! (stop !)) (init ! 26 refl (uint-lawful 𝓤 H A W w32 .typed r _ is .0)) $
           returns ! (look ! 26 refl) $ forget ! 4 refl $ forget ! 6 refl $ forget ! 8 refl $ forget ! 10 refl $ forget ! 12 refl $ forget ! 14 refl $ forget ! 16 refl $ forget ! 18 refl $ forget ! 20 refl $ forget ! 22 refl $ forget ! 24 refl $ forget ! 26 refl $
           move ! (26 ∷ 27 ∷ []) $ free1 ! $ move ! (24 ∷ 25 ∷ []) $ free1 ! $ move ! (22 ∷ 23 ∷ []) $ free1 ! $ move ! (20 ∷ 21 ∷ []) $ free1 ! $ move ! (18 ∷ 19 ∷ []) $ free1 ! $ move ! (16 ∷ 17 ∷ []) $ free1 ! $
           move ! (14 ∷ 15 ∷ []) $ free1 ! $ move ! (12 ∷ 13 ∷ []) $ free1 ! $ move ! (10 ∷ 11 ∷ []) $ free1 ! $ move ! (8 ∷ 9 ∷ []) $ free1 ! $ move ! (6 ∷ 7 ∷ []) $ free1 ! $ move ! (4 ∷ 5 ∷ []) $ free1 ! $ free0 ! $
-          keep ! (1 ∷ 3 ∷ 2 ∷ 0 ∷ []) $ by ! (exits r z zs (solved f n (listedAt xs) filled true (given present) (now s₁) (now s₂) (now s₃) ys zs r e) l)))))))
+          keep ! (1 ∷ 3 ∷ 2 ∷ 0 ∷ []) $ by ! (exits r z zs (e (listedAt xs) filled) l)))))))
 
       -- from where the parameters are passed
       begins : Sq W (‵ (froom inTy l₁₁ 0) ∷ ‵ (fdies inTy l₁₁) ∷ ‵ (froom at l₁₀ 0) ∷ ‵ (fdies at l₁₀) ∷ ‵ (froom word l₉ 0) ∷ ‵ (fdies word l₉) ∷ ‵ (froom S′.mir l₈ 0) ∷ ‵ (fdies S′.mir l₈) ∷ ‵ (froom word l₇ 0) ∷ ‵ (fdies word l₇)
@@ -297,7 +299,7 @@ module _ {M : Type 1} (𝓤 : URA M) (H : Heap 𝓤) (A : Atoms 𝓤) (W : Given
           -- [what f owns; the list's token; the other tokens; what the others own; _11; …; _0; …]
           peeks ! AR (Is AR) (shows 𝓤 H A AR) f (m ∷ []) (λ is₁.
           land ! (from ! (stop !)) (init ! 10 refl (LL.lawful S.the-type S′.the-laws 𝓤 H A W .typed f _ is₁ .0)) $
-          solves u f m (λ few. e ∙ ap (fieldsOf (listedAt xs)) (few-all n k h few))))))))))
+          solves u f m (few-held (listedAt xs) n k h e)))))))))
 
     walk : Is (ShrSlice (named 0) κ R) s (v ∷ []) → ent 𝓤 (onEntry 𝓤 H A entry.signature (Passed .0 .0) (Passed .0 .1) (Passed .0 .3) (Passed .0 .4)) (WpFn 𝓤 H C Λ code.function (v ∷ val s₁ ∷ val s₂ ∷ val s₃ ∷ vint w32 present ∷ val x ∷ []) Post)
     walk p =

@@ -1,9 +1,9 @@
--- `inputs::ascends` meets its contract: the first has none before it; any other is compared with that one. Assumes nothing.
+-- `receptions::identity::ascends` meets its contract: the first has none before it; any other is compared with that one. Assumes nothing.
 use borrow.Author.Needs.{needs}
 use mathlib.Core.Path.{_∙_}
 use borrow.Author.Tests.{eq-eqb, ne-eqb}
-use Rattle.inputs.proofs.ascends.Statement.{statement}
-use Rattle.inputs.proofs.ascends.Tie as tie
+use Rattle.receptions.proofs.identity.ascends.Statement.{statement}
+use Rattle.receptions.proofs.identity.ascends.Tie as tie
 
 returns : tie.Need-returns
 returns c = rw (eq-eqb (c .before .args .i) 0 (c .if1 .taken))
