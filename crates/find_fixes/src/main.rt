@@ -4,7 +4,8 @@
 //     find_fixes FILE --ecef X Y Z RADIUS                 metres
 //
 // The nearest fix of the file comes first, then a line for each within the radius, in file order: its place, from 0,
-// and its distance. A file or a query that is turned away is said on standard error, and then nothing is written.
+// and its distance. A file or a query that is turned away is said on standard error, and then nothing is written; so are
+// other arguments, and an output that fails.
 //
 // The file is read block by block, for the language has no heap: each block is whole records, but for the last of a
 // torn file, and what is found in a block is found by `near`.
@@ -58,31 +59,43 @@ fn say(text: &[u8]) {
     io::write_all(STDERR_FILENO, text);
 }
 
-fn print(text: &[u8]) {
-    io::write_all(STDOUT_FILENO, text);
+fn print(text: &[u8]) -> bool {
+    io::write_all(STDOUT_FILENO, text)
 }
 
-fn print_number(number: u64) {
-    io::print_decimal(STDOUT_FILENO, number);
+fn print_number(number: u64) -> bool {
+    io::print_decimal(STDOUT_FILENO, number)
+}
+
+// Whether what was printed was written; where it was not, that is said.
+fn told(written: bool) -> bool {
+    if !written {
+        os::fail(b"find_fixes: standard output");
+    }
+    written
 }
 
 // ---- distances
 
+// Whole millimetres as metres.
+fn print_mm(n: u64) -> bool {
+    let whole = print_number(n / 1000);
+    let point = print(b".");
+    let tenth = print_number(n / 100 % 10);
+    let hundredth = print_number(n / 10 % 10);
+    let thousandth = print_number(n % 10);
+    whole && point && tenth && hundredth && thousandth
+}
+
 // Metres to the nearest millimetre.
-fn print_metres(metres: f64) {
+fn print_metres(metres: f64) -> bool {
     let mm = metres * 1000.0 + 0.5;
     if mm > -1.0 {
         if mm < 18446744073709551616.0 {
-            let n = std::num::truncating_f64_to_u64(mm);
-            print_number(n / 1000);
-            print(b".");
-            print_number(n / 100 % 10);
-            print_number(n / 10 % 10);
-            print_number(n % 10);
-            return;
+            return print_mm(std::num::truncating_f64_to_u64(mm));
         }
     }
-    print(b"over 10^16");
+    print(b"over 10^16")
 }
 
 // How far the position of a fix is from the point, as `near` has it.
@@ -96,12 +109,13 @@ fn distance(bytes: &[u8], point: Vec3) -> f64 {
     linalg::norm(linalg::sub([x, y, z], point))
 }
 
-fn print_fix(place: u64, distance: f64) {
-    print(b"place ");
-    print_number(place);
-    print(b", ");
-    print_metres(distance);
-    print(b" m away\n");
+fn print_fix(place: u64, distance: f64) -> bool {
+    let word = print(b"place ");
+    let number = print_number(place);
+    let comma = print(b", ");
+    let metres = print_metres(distance);
+    let end = print(b" m away\n");
+    word && number && comma && metres && end
 }
 
 // ---- what is turned away
@@ -156,8 +170,8 @@ fn with_block(block: &[u8], base: u64, point: Vec3, best: Best) -> Best
     }
 }
 
-// Names the fixes of a block within the radius, a line each.
-fn name_block(block: &[u8], base: u64, point: Vec3, radius: f64) {
+// Names the fixes of a block within the radius, a line each, as long as they can be written. Whether they were.
+fn name_block(block: &[u8], base: u64, point: Vec3, radius: f64) -> bool {
     let mut places = [0u64; RECORDS];
     let mut count = 0u64;
     near::within(block, point, radius, &mut places, &mut count);
@@ -165,21 +179,31 @@ fn name_block(block: &[u8], base: u64, point: Vec3, radius: f64) {
         if (i as u64) < count {
             let place = places[i];
             let d = distance(reader::record_at(block, place), point);
-            print_fix(std::num::wrapping_add_u64(base, place), d);
+            if !print_fix(std::num::wrapping_add_u64(base, place), d) {
+                return false;
+            }
         }
     }
+    true
+}
+
+// Names those of a block, if that is asked. Whether nothing fails; where it does, that is said.
+fn named(block: &[u8], base: u64, query: Query) -> bool {
+    let point = query.point;
+    if query.name {
+        return told(name_block(block, base, point, query.radius));
+    }
+    true
 }
 
 fn search_block(fd: i32, base: u64, query: Query, best: Best) -> Turn {
     let mut block = [0u8; BLOCK];
     let n = io::read_full(fd, &mut block);
     let point = query.point;
-    if query.name {
-        name_block(&block[..n], base, point, query.radius);
-    }
+    let shown = named(&block[..n], base, query);
     let next = with_block(&block[..n], base, point, best);
     Turn {
-        last: n < BLOCK,
+        last: n < BLOCK || !shown,
         best: next,
     }
 }
@@ -249,13 +273,13 @@ fn passed(file: u32, query: u32) -> bool {
     file == 0 && query == 0
 }
 
-fn print_nearest(best: Best) {
-    if best.found {
-        print(b"nearest: ");
-        print_fix(best.place, best.distance);
-    } else {
-        print(b"nearest: none, the file has no fix\n");
+fn print_nearest(best: Best) -> bool {
+    if !best.found {
+        return print(b"nearest: none, the file has no fix\n");
     }
+    let word = print(b"nearest: ");
+    let fix = print_fix(best.place, best.distance);
+    word && fix
 }
 
 // A bad query is looked at after the file, which is searched from the origin then.
@@ -277,8 +301,7 @@ fn find(path: &[u8], point: Vec3, radius: f64) {
             name: false,
         },
     );
-    if passed(best.refusal, refusal) {
-        print_nearest(best);
+    if passed(best.refusal, refusal) && told(print_nearest(best)) {
         searched(
             path,
             Query {

@@ -1,5 +1,5 @@
-// The four files of a problem, read from the current folder, for the programs that take them. A file that is absent
-// is an absent input. One that is there and cannot be read is said on standard error.
+// The four files of a problem, read from a folder, for the programs that take them. A file that is absent is an absent
+// input. One that is there and cannot be read is said on standard error, and so is a folder that cannot be opened.
 //
 // A file that is too long is cut to a length that gets the same answer (crates/entry/specs/Cut.antt).
 // For clock.bin, altitude.bin and reference.bin that is one byte more than the longest that is taken. Of
@@ -8,12 +8,17 @@
 ghost use Prim.Native.Nat.{_≤_};
 ghost use mathlib.Core.Bool.{cond};
 ghost use mathlib.Core.Path.{_≡_};
+ghost use lib.ListN.{length};
 ghost use Rattle.io.specs.Counts.{Counts};
 ghost use Rattle.entry.specs.Cut.{taken, presentBits};
 use libc::ENOENT;
 
 // The bytes of 33 receptions.
 pub const ONE_TOO_MANY: usize = 33 * receptions::RECEPTION_BYTES;
+
+// Room for the path of a file: a folder of 4,096 bytes, a slash and a name of 15. What is cut there has over 4,095
+// bytes, and is no path (`os`).
+const ROOM: usize = 4112;
 
 // How many bytes are read on at a time.
 const BLOCK: usize = 4096;
@@ -29,6 +34,56 @@ pub struct Part {
     pub read: bool,
     pub there: bool,
     pub n: usize,
+}
+
+// Byte i of a path: the folder, a slash, the name, zeros.
+fn byte_at(folder: &[u8], name: &[u8], i: usize) -> u8 {
+    let n = folder.len();
+    if i < n {
+        return folder[i];
+    }
+    if i == n {
+        return b'/';
+    }
+    let k = i - n - 1;
+    if k < name.len() {
+        return name[k];
+    }
+    0
+}
+
+// The path of the folder's file of this name, and zeros.
+fn joined(folder: &[u8], name: &[u8]) -> [u8; ROOM]
+    ensures { λ r. ⌜ 4112 ≡ length r ⌝ }
+{
+    let mut path = [0u8; ROOM];
+    for i in 0..ROOM {
+        path[i] = byte_at(folder, name, i);
+    }
+    path
+}
+
+// As much of n as the path has.
+fn within(n: usize, path: &[u8]) -> usize
+    ensures { λ r. ⌜ Counts r (now (path .entry)) ⌝ }
+{
+    if n > path.len() {
+        return path.len();
+    }
+    n
+}
+
+// How many bytes there are before the zeros, if they are not cut.
+fn size(folder: &[u8], name: &[u8]) -> usize {
+    let n = folder.len();
+    let k = name.len();
+    if n > ROOM {
+        return ROOM;
+    }
+    if k > ROOM {
+        return ROOM;
+    }
+    n + 1 + k
 }
 
 // A descriptor of the file, ABSENT, or, said on standard error, CLOSED.
@@ -66,8 +121,21 @@ fn missing(fd: i32) -> Part
     }
 }
 
-// Reads the file to the start of `buf`, as much of it as there is room for.
-pub fn read_file(path: &[u8], buf: &mut [u8]) -> Part
+// Whether the folder can be opened. Where it cannot, that is said.
+fn there(folder: &[u8]) -> bool {
+    let path = joined(folder, b".");
+    let n = within(size(folder, b"."), &path);
+    let fd = os::open_read(&path[..n]);
+    if fd < 0 {
+        os::fail(folder);
+        return false;
+    }
+    libc::close(fd);
+    true
+}
+
+// Reads the file at this path to the start of `buf`, as much of it as there is room for.
+fn read_at(path: &[u8], buf: &mut [u8]) -> Part
     ensures { λ r. ⌜ Counts (r .n) (now (buf .exit)) ⌝ }
 {
     let fd = opened(path);
@@ -81,6 +149,15 @@ pub fn read_file(path: &[u8], buf: &mut [u8]) -> Part
         there: true,
         n,
     }
+}
+
+// Reads the folder's file of this name likewise.
+pub fn read_file(folder: &[u8], name: &[u8], buf: &mut [u8]) -> Part
+    ensures { λ r. ⌜ Counts (r .n) (now (buf .exit)) ⌝ }
+{
+    let path = joined(folder, name);
+    let n = within(size(folder, name), &path);
+    read_at(&path[..n], buf)
 }
 
 // Reads on, by a block or up to the end.
@@ -121,22 +198,34 @@ fn taken(n: usize, whole: bool) -> usize
     n - 1
 }
 
-// Reads receptions.bin, of which `buf` has room for ONE_TOO_MANY bytes.
-pub fn read_receptions(buf: &mut [u8]) -> Part
+// Reads the receptions at this path, of which `buf` has room for ONE_TOO_MANY bytes.
+fn receptions_at(path: &[u8], buf: &mut [u8]) -> Part
     ensures { λ r. ⌜ Counts (r .n) (now (buf .exit)) ⌝ }
 {
-    let fd = opened(b"receptions.bin");
+    let fd = opened(path);
     if fd < 0 {
         return missing(fd);
     }
     let n = io::read_full(fd, buf);
     let whole = rest_is_whole(fd);
-    let read = closed(fd, b"receptions.bin");
+    let read = closed(fd, path);
     Part {
         read,
         there: true,
         n: taken(n, whole),
     }
+}
+
+// Reads the folder's receptions.bin likewise. They are not `read` either where the folder cannot be opened.
+pub fn read_receptions(folder: &[u8], buf: &mut [u8]) -> Part
+    ensures { λ r. ⌜ Counts (r .n) (now (buf .exit)) ⌝ }
+{
+    if !there(folder) {
+        return missing(CLOSED);
+    }
+    let path = joined(folder, b"receptions.bin");
+    let n = within(size(folder, b"receptions.bin"), &path);
+    receptions_at(&path[..n], buf)
 }
 
 // The bit of an input that is there.

@@ -44,6 +44,9 @@ say-requires-2 c κs = search needs
 returns : tie.Need-returns
 returns c = search needs
 
+returns-2 : tie.Need-returns-2
+returns-2 c = search needs
+
 pub share-spec : {M : Type 1} → statement M
 share-spec =
     tie.close
@@ -58,4 +61,5 @@ share-spec =
     print-decimal-requires
     slice-aggregate-say-2
     say-requires-2
-    returns)
+    returns
+    returns-2)

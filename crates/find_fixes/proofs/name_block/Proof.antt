@@ -50,6 +50,9 @@ loop-again c = omega arith
 returns : tie.Need-returns Inv-loop μ-loop
 returns c = search needs
 
+returns-2 : tie.Need-returns-2 Inv-loop μ-loop
+returns-2 c = search needs
+
 pub name-block-spec : {M : Type 1} → statement M
 name-block-spec =
     tie.close
@@ -65,7 +68,8 @@ name-block-spec =
     distance-requires
     wrapping-add-u64-requires
     print-fix-requires
+    returns
     add-i
     loop-less
     loop-again
-    returns)
+    returns-2)

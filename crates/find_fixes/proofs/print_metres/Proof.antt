@@ -10,32 +10,17 @@ truncating-f64-to-u64-requires : tie.Need-truncating-f64-to-u64-requires
 unfolding ofBits neg
 truncating-f64-to-u64-requires c κs = (subst T (sym (c .before .if1 .taken)) tt, subst T (sym (c .if2 .taken)) tt)
 
-print-number-requires : tie.Need-print-number-requires
-print-number-requires c κs = search needs
+print-mm-requires : tie.Need-print-mm-requires
+print-mm-requires c κs = search needs
+
+returns : tie.Need-returns
+returns c = search needs
 
 slice-aggregate-print : tie.Need-slice-aggregate-print
 slice-aggregate-print c = search needs
 
 print-requires : tie.Need-print-requires
 print-requires c κs = search needs
-
-print-number-requires-2 : tie.Need-print-number-requires-2
-print-number-requires-2 c κs = search needs
-
-print-number-requires-3 : tie.Need-print-number-requires-3
-print-number-requires-3 c κs = search needs
-
-print-number-requires-4 : tie.Need-print-number-requires-4
-print-number-requires-4 c κs = search needs
-
-returns : tie.Need-returns
-returns c = search needs
-
-slice-aggregate-print-2 : tie.Need-slice-aggregate-print-2
-slice-aggregate-print-2 c = search needs
-
-print-requires-2 : tie.Need-print-requires-2
-print-requires-2 c κs = search needs
 
 returns-2 : tie.Need-returns-2
 returns-2 c = search needs
@@ -45,13 +30,8 @@ print-metres-spec =
     tie.close
     (tie.spec
     truncating-f64-to-u64-requires
-    print-number-requires
+    print-mm-requires
+    returns
     slice-aggregate-print
     print-requires
-    print-number-requires-2
-    print-number-requires-3
-    print-number-requires-4
-    returns
-    slice-aggregate-print-2
-    print-requires-2
     returns-2)

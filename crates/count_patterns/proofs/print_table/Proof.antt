@@ -1,10 +1,10 @@
--- `count_patterns::main` gives each line its number of patterns: by computation. Assumes nothing.
+-- `count_patterns::print_table` gives each line its number of patterns: by computation. Assumes nothing.
 use mathlib.Core.Path.{refl}
 use native.Mathlib.Omega.{arith}
 use Rattle.patterns.specs.Patterns.{pairs}
 use borrow.Author.Needs.{needs}
-use Rattle.count_patterns.proofs.main.Statement.{statement}
-use Rattle.count_patterns.proofs.main.Tie as tie
+use Rattle.count_patterns.proofs.print_table.Statement.{statement}
+use Rattle.count_patterns.proofs.print_table.Tie as tie
 
 slice-aggregate-say : tie.Need-slice-aggregate-say
 slice-aggregate-say c = search needs
@@ -49,8 +49,11 @@ line-requires-7 c κs = (omega arith, refl)
 returns : tie.Need-returns
 returns c = search needs
 
-pub main-spec : {M : Type 1} → statement M
-main-spec =
+returns-2 : tie.Need-returns-2
+returns-2 c = search needs
+
+pub print-table-spec : {M : Type 1} → statement M
+print-table-spec =
     tie.close
     (tie.spec
     slice-aggregate-say
@@ -64,4 +67,5 @@ main-spec =
     line-requires-5
     line-requires-6
     line-requires-7
-    returns)
+    returns
+    returns-2)

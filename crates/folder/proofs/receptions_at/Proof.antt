@@ -1,15 +1,12 @@
--- `folder::read_receptions` meets its contract: as many as were read, or one fewer, are within the buffer. Assumes nothing.
+-- `folder::receptions_at` meets its contract: as many as were read, or one fewer, are within the buffer. Assumes nothing.
 use borrow.Author.Needs.{needs}
 use Prim.Native.Nat.{_≤_}
 use mathlib.Core.Path.{sym}
 use native.Mathlib.Omega.{arith}
 use lib.ListN.{length}
 use lib.Seq.{length-take-le}
-use Rattle.folder.proofs.read_receptions.Statement.{statement}
-use Rattle.folder.proofs.read_receptions.Tie as tie
-
-slice-aggregate-opened : tie.Need-slice-aggregate-opened
-slice-aggregate-opened c = search needs
+use Rattle.folder.proofs.receptions_at.Statement.{statement}
+use Rattle.folder.proofs.receptions_at.Tie as tie
 
 opened-requires : tie.Need-opened-requires
 opened-requires c κs = search needs
@@ -26,9 +23,6 @@ read-full-requires c κs = search needs
 rest-is-whole-requires : tie.Need-rest-is-whole-requires
 rest-is-whole-requires c κs = search needs
 
-slice-aggregate-closed : tie.Need-slice-aggregate-closed
-slice-aggregate-closed c = search needs
-
 closed-requires : tie.Need-closed-requires
 closed-requires c κs = search needs
 
@@ -40,20 +34,18 @@ same-length c = search needs
 
 returns-2 : tie.Need-returns-2
 returns-2 c =
-    let h : c .taken .result ≤ length (c .before .before .before .before .before .before .read-full .last .1 .0) = omega (arith, c .taken .ensures .1) in
-    (h, sym (length-take-le (c .taken .result) (c .before .before .before .before .before .before .read-full .last .1 .0) h))
+    let h : c .taken .result ≤ length (c .before .before .before .before .before .read-full .last .1 .0) = omega (arith, c .taken .ensures .1) in
+    (h, sym (length-take-le (c .taken .result) (c .before .before .before .before .before .read-full .last .1 .0) h))
 
-pub read-receptions-spec : {M : Type 1} → statement M
-read-receptions-spec =
+pub receptions-at-spec : {M : Type 1} → statement M
+receptions-at-spec =
     tie.close
     (tie.spec
-    slice-aggregate-opened
     opened-requires
     missing-requires
     returns
     read-full-requires
     rest-is-whole-requires
-    slice-aggregate-closed
     closed-requires
     taken-requires
     same-length
