@@ -1,4 +1,6 @@
--- Demand 3, in words that know nothing of the computation: what a round may do, the chain of rounds, and the answer. Statements only.
+-- Demand 3: what a round may do, the chain of rounds, and the answer, in words that know nothing of the loop that
+-- computes them. They rest on the definitions of the screen (which receptions are kept), the best fit, the normalised
+-- residual and the starts, which a `Setting` holds, and on the later tests (specs/Later.antt). Statements only.
 use mathlib.Core.Path.{_≡_}
 use mathlib.Core.Logic.{_⊎_, _≢_, _↔_}
 use mathlib.Core.Option.{Option, none, some}
