@@ -18,7 +18,7 @@ pub enum Altitude {
 }
 
 // Reception i's time (picoseconds), site (millimetres and metres, three coordinates each), z (metres of
-// light after the reference) and noise (square metres) stand at i; the clock covariance of i and j
+// light) and noise (square metres) stand at i; the clock covariance of i and j
 // (square metres) at i * n + j. What lies past the n receptions is zero. The solve takes `altitude`, with
 // a station's correction; the record shows `shown`, the altitude as it was given.
 pub struct Problem {
