@@ -103,7 +103,7 @@ returns-2 c =
     (sized .before .size-of3 .ensures .0)
     (sized .size-of4 .ensures .0)
     (asks .present-of .ensures)
-    _ _ (omega arith) (solves .solve .ensures .0) (solves .solve .ensures .1 .0)
+    _ _ (omega arith) (solves .solve .ensures .answer) (solves .solve .ensures .output)
 
 pub solve-body-spec : {M : Type 1} → statement M
 solve-body-spec =
