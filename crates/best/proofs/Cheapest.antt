@@ -27,24 +27,28 @@ chosen p beats (suc k) i e = go (p k) refl (choose p beats k) (λ j q. chosen p 
     go true f (some b) h q = pick (beats k b) b (eq→T f) (h b refl) q
 
 -- only which are candidates below k, and how those beat each other, matters
-pub same-choice : (p q : ℕ → Bool) (b c : ℕ → ℕ → Bool) (k : ℕ) → ((j : ℕ) → j < k → p j ≡ q j) → ((i j : ℕ) → i < k → j < k → T (p i) → T (p j) → b i j ≡ c i j) → choose p b k ≡ choose q c k
+pub same-choice : (p q : ℕ → Bool) (b c : ℕ → ℕ → Bool) (k : ℕ) → ((j : ℕ) → j < k → p j ≡ q j)
+    → ((i j : ℕ) → i < k → j < k → T (p i) → T (p j) → b i j ≡ c i j) → choose p b k ≡ choose q c k
 unfolding choose consider
 same-choice p q b c zero e f = refl
 same-choice p q b c (suc k) e f =
     go (p k) refl (choose p b k) refl
-    ∙ ap₂ (λ (t : Bool) (o : Option ℕ). consider c t k o) (e k (omega arith)) (same-choice p q b c k (λ j l. e j (omega arith)) (λ i j l m. f i j (omega arith) (omega arith)))
+    ∙ ap₂ (λ (t : Bool) (o : Option ℕ). consider c t k o) (e k (omega arith))
+    (same-choice p q b c k (λ j l. e j (omega arith)) (λ i j l m. f i j (omega arith) (omega arith)))
   where
     go : (t : Bool) → p k ≡ t → (o : Option ℕ) → choose p b k ≡ o → consider b t k o ≡ consider c t k o
     go false h o d = refl
     go true h none d = refl
-    go true h (some j) d = let u = chosen p b k j d in ap (λ (x : Bool). cond x (some k) (some j)) (f k j (omega arith) (omega (arith, u .1)) (eq→T h) (u .0))
+    go true h (some j) d = let u = chosen p b k j d in
+        ap (λ (x : Bool). cond x (some k) (some j)) (f k j (omega arith) (omega (arith, u .1)) (eq→T h) (u .0))
 
 module _ (p : ℕ → Bool) (cost : ℕ → Float) (number : (i : ℕ) → T (p i) → T (not (isNan (cost i)))) where
   abbrev less : ℕ → ℕ → Bool
   less i j = lt (cost i) (cost j)
 
   turned : (i j : ℕ) → T (p i) → T (p j) → not (le (cost j) (cost i)) ≡ less i j
-  turned i j a b = same-T (not (le (cost j) (cost i))) (less i j) (λ h. lt-of-not-le (cost i) (cost j) (number i a) (number j b) h) (λ h. not-T (le (cost j) (cost i)) (λ l. le-lt (cost i) (cost j) l h))
+  turned i j a b = same-T (not (le (cost j) (cost i))) (less i j) (λ h. lt-of-not-le (cost i) (cost j) (number i a) (number j b) h)
+      (λ h. not-T (le (cost j) (cost i)) (λ l. le-lt (cost i) (cost j) l h))
 
   ranks : Ranks p less
   ranks = record { asym = λ i j h k. lt-asym (cost i) (cost j) h k; split = λ i j k t h. lt-split (cost i) (cost j) (cost k) (number j t) h }
@@ -60,7 +64,8 @@ module _ (p : ℕ → Bool) (cost : ℕ → Float) (number : (i : ℕ) → T (p 
   choice k = choose p (λ i j. not (le (cost j) (cost i))) k
 
   is-choice : (k : ℕ) (o : Option ℕ) → choice k ≡ o → IsChoice p less k o
-  is-choice k o e = subst (IsChoice p less k) (sym (same-choice p p (λ i j. not (le (cost j) (cost i))) less k (λ j l. refl) (λ i j l m. turned i j)) ∙ e) (choose-is p less ranks k)
+  is-choice k o e = subst (IsChoice p less k) (sym (same-choice p p (λ i j. not (le (cost j) (cost i))) less k (λ j l. refl) (λ i j l m. turned i j))
+      ∙ e) (choose-is p less ranks k)
 
   pub cheapest-of : (k i : ℕ) → choice k ≡ some i → Cheapest k i
   cheapest-of k i e =

@@ -1,4 +1,5 @@
--- The cost of a fit that converged is a number. A sum of squares is a number unless a residual is none, and then the gradient along the transmit time is none either, and no step by it is small. Assumes nothing.
+-- The cost of a fit that converged is a number. A sum of squares is a number unless a residual is none, and then the gradient along the transmit time
+-- is none either, and no step by it is small. Assumes nothing.
 use mathlib.Core.Path.{_≡_, refl, sym, ap, subst, _∙_}
 use mathlib.Core.Logic.{_⊎_, inl, inr}
 use mathlib.Core.Bool.{Bool, true, false, not, cond, _&&_}
@@ -21,7 +22,8 @@ use Rattle.damped.specs.declared.Fit.{Fit}
 use Rattle.damped.specs.declared.Lm.{Lm}
 use Rattle.damped.specs.declared.Stepped.{Stepped}
 use Rattle.damped.specs.declared.Verdict.the-variants.{Accepted, Converged, Rejected, Stopped, Failed}
-use Rattle.damped.specs.Damped.{dampedTo, solved, descent, moved, below, small, better, accepted, rejected, step, fitted, unfitted, plain, after, run, started, levenbergMarquardt}
+use Rattle.damped.specs.Damped.{dampedTo, solved, descent, moved, below, small, better, accepted, rejected, step, fitted, unfitted, plain, after, run}
+use Rattle.damped.specs.Damped.{started, levenbergMarquardt}
 use Rattle.damped.proofs.Squares.{clear, add-clear, square-clear}
 
 -- ---- sums of squares
@@ -45,7 +47,8 @@ Fine cost gradient = T (clear cost) ⊎ (nth gradient 3 ≡ nan)
 normal-fine : (w : Rows) (i : ℕ) → Fine (normalTo w i .cost) (normalTo w i .gradient)
 unfolding normalTo plusMultiple ofBits
 normal-fine w zero = inl tt
-normal-fine w (suc i) = go (nth (w .r) i) (nth (w .d) i) (normalTo w i .cost) (nth (normalTo w i .gradient) 3) (square-clear binary64 (nth (w .r) i)) (normal-fine w i)
+normal-fine w (suc i) = go (nth (w .r) i) (nth (w .d) i) (normalTo w i .cost) (nth (normalTo w i .gradient) 3)
+    (square-clear binary64 (nth (w .r) i)) (normal-fine w i)
   where
     go : (r d cost g : Float) → T (clear (r ⊗ r)) ⊎ (r ≡ nan) → T (clear cost) ⊎ (g ≡ nan) → T (clear (cost ⊕ r ⊗ r)) ⊎ (g ⊕ d ⊗ r ≡ nan)
     go r d cost g (inl s) (inl c) = inl (add-clear binary64 cost (r ⊗ r) c s)
@@ -65,7 +68,8 @@ none-small : (x : List Float) → nth x 3 ≡ nan → T (small x) → ⊥
 unfolding small abs lt
 none-small x e h =
     let last = and-r (below (nth x 0)) (below (nth x 1) && (below (nth x 2) && below (nth x 3))) h in
-    subst (λ (v : Float). T (below v)) e (and-r (below (nth x 2)) (below (nth x 3)) (and-r (below (nth x 1)) (below (nth x 2) && below (nth x 3)) last))
+    subst (λ (v : Float). T (below v)) e (and-r (below (nth x 2)) (below (nth x 3))
+    (and-r (below (nth x 1)) (below (nth x 2) && below (nth x 3)) last))
 
 descent-none : (m g : List Float) → nth g 3 ≡ nan → T (descent m g .ok && small (descent m g .x)) → ⊥
 unfolding descent neg
@@ -73,7 +77,9 @@ descent-none m g e h = go (cholesky m 4 (replicate 16 nought)) h
   where
     go : (F : Factor) → T (solved F (four (λ i. neg (nth g i))) .ok && small (solved F (four (λ i. neg (nth g i))) .x)) → ⊥
     go (refused l) k = k
-    go (found l) k = none-small (solve l 4 (four (λ i. neg (nth g i)))) (ap (λ (x : Float). nth (solve l 4 (neg (nth g 0) ∷ neg (nth g 1) ∷ neg (nth g 2) ∷ neg x ∷ [])) 3) e ∙ solve-none l (neg (nth g 0)) (neg (nth g 1)) (neg (nth g 2))) k
+    go (found l) k = none-small (solve l 4 (four (λ i. neg (nth g i))))
+        (ap (λ (x : Float). nth (solve l 4 (neg (nth g 0) ∷ neg (nth g 1) ∷ neg (nth g 2) ∷ neg x ∷ [])) 3) e
+        ∙ solve-none l (neg (nth g 0)) (neg (nth g 1)) (neg (nth g 2))) k
 
 -- ---- the run
 abbrev Number : Fit → Type 0
@@ -91,7 +97,8 @@ better-finite next cost e = and-l (isFinite next) (le next cost) (subst T (sym e
 
 plain-number : (s : Lm) → Fine (s .cost) (s .gradient) → Number (plain s)
 unfolding plain
-plain-number s f = go (descent (s .information) (s .gradient) .ok && small (descent (s .information) (s .gradient) .x)) f (λ e. descent-none (s .information) (s .gradient) e)
+plain-number s f = go (descent (s .information) (s .gradient) .ok && small (descent (s .information) (s .gradient) .x)) f
+    (λ e. descent-none (s .information) (s .gradient) e)
   where
     go : (b : Bool) → Fine (s .cost) (s .gradient) → (nth (s .gradient) 3 ≡ nan → T b → ⊥) → Number (cond b (fitted s) unfitted)
     go false f never h = absurd h
@@ -102,7 +109,8 @@ module _ (C : Chosen) (n : ℕ) (more : (s : Lm) → Fine (s .cost) (s .gradient
   abbrev Goes : Stepped → Type 0
   Goes t = Number (after (t .verdict) (t .state) (run C n (t .state)))
 
-  accepted-goes : (lambda : Float) (x candidate : List Float) (next : Equations) → Fine (next .cost) (next .gradient) → T (isFinite (next .cost)) → Goes (accepted lambda x candidate next)
+  accepted-goes : (lambda : Float) (x candidate : List Float) (next : Equations) → Fine (next .cost) (next .gradient) → T (isFinite (next .cost))
+      → Goes (accepted lambda x candidate next)
   unfolding accepted
   accepted-goes lambda x candidate next f k = go (small x)
     where
@@ -123,13 +131,17 @@ module _ (C : Chosen) (n : ℕ) (more : (s : Lm) → Fine (s .cost) (s .gradient
 
   step-goes : (s : Lm) → Fine (s .cost) (s .gradient) → Goes (step C s)
   unfolding step
-  step-goes s f = go (descent (dampedTo (s .information) (s .lambda) 4) (s .gradient) .ok) (descent (dampedTo (s .information) (s .lambda) 4) (s .gradient) .x)
+  step-goes s f = go (descent (dampedTo (s .information) (s .lambda) 4) (s .gradient) .ok)
+      (descent (dampedTo (s .information) (s .lambda) 4) (s .gradient) .x)
     where
-      judge : (b : Bool) (x p : List Float) → better (evaluated C p .cost) (s .cost) ≡ b → Goes (cond b (accepted (s .lambda) x p (evaluated C p)) (rejected s))
+      judge : (b : Bool) (x p : List Float) → better (evaluated C p .cost) (s .cost) ≡ b
+          → Goes (cond b (accepted (s .lambda) x p (evaluated C p)) (rejected s))
       judge true x p e = accepted-goes (s .lambda) x p (evaluated C p) (evaluated-fine C p) (better-finite (evaluated C p .cost) (s .cost) e)
       judge false x p e = rejected-goes s f
 
-      go : (b : Bool) (x : List Float) → Goes (cond b (cond (better (evaluated C (moved (s .params) x) .cost) (s .cost)) (accepted (s .lambda) x (moved (s .params) x) (evaluated C (moved (s .params) x))) (rejected s)) (record { state = s; verdict = Failed }))
+      go : (b : Bool) (x : List Float) → Goes (cond b
+          (cond (better (evaluated C (moved (s .params) x) .cost) (s .cost))
+          (accepted (s .lambda) x (moved (s .params) x) (evaluated C (moved (s .params) x))) (rejected s)) (record { state = s; verdict = Failed }))
       go true x = judge (better (evaluated C (moved (s .params) x) .cost) (s .cost)) x (moved (s .params) x) refl
       go false x = λ h. absurd h
 

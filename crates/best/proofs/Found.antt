@@ -48,7 +48,8 @@ near-at sites x (suc k) h j l = elim (lt-suc-cases j k l) [
 all-near : (sites x : List Float) (k : ℕ) → ((j : ℕ) → j < k → T (le (range sites x j) maxRangeM)) → T (nearTo sites x k)
 unfolding nearTo
 all-near sites x zero h = tt
-all-near sites x (suc k) h = and-both (nearTo sites x k) (le (range sites x k) maxRangeM) (all-near sites x k (λ j l. h j (omega arith))) (h k (omega arith))
+all-near sites x (suc k) h = and-both (nearTo sites x k) (le (range sites x k) maxRangeM) (all-near sites x k (λ j l. h j (omega arith)))
+    (h k (omega arith))
 
 module _ (C : Chosen) (starts : List (List Float)) where
   plausible-is : (fit : Fit) → T (plausible (C .sites) (C .k) (fit .params)) → Plausible C fit
@@ -97,7 +98,9 @@ module _ (C : Chosen) (starts : List (List Float)) where
       go : T (ltb i (length starts)) ⊎ T (not (ltb i (length starts))) → T (not (isNan (fitAt fits i .cost)))
       go (inl l) =
           let e : fitAt fits i ≡ fitFrom C starts i = at-start i (ltb→lt i (length starts) l) in
-          subst (λ (f : Fit). T (not (isNan (f .cost)))) (sym e) (cost-number C (getD starts i []) (subst (λ (f : Fit). T (f .ok)) e (and-l (fitAt fits i .ok) (plausible (C .sites) (C .k) (fitAt fits i .params)) t)))
+          subst (λ (f : Fit). T (not (isNan (f .cost)))) (sym e)
+          (cost-number C (getD starts i []) (subst (λ (f : Fit). T (f .ok)) e
+          (and-l (fitAt fits i .ok) (plausible (C .sites) (C .k) (fitAt fits i .params)) t)))
       go (inr l) = absurd (subst (λ (f : Fit). T (used f)) (past i (nltb→le i (length starts) l)) t)
 
   -- ---- those that are weighed, and what is chosen of them
@@ -133,13 +136,16 @@ module _ (C : Chosen) (starts : List (List Float)) where
   is-weighed : (j : ℕ) → Weighed C starts j → T (candidate j)
   is-weighed j w =
       let f : Fit = fitFrom C starts j in
-      of-list (λ x. T (used x)) j (w .converges .listed) (and-both (f .ok) (plausible (C .sites) (C .k) (f .params)) (w .converges .converged) (is-plausible f (w .plausible)))
+      of-list (λ x. T (used x)) j (w .converges .listed)
+      (and-both (f .ok) (plausible (C .sites) (C .k) (f .params)) (w .converges .converged) (is-plausible f (w .plausible)))
 
   -- a fact of the costs of two starts is one of two of the list, and back
-  of-starts : (Q : Float → Float → Type 0) (i j : ℕ) → i < length starts → j < length starts → Q (costAt i) (costAt j) → Q (fitFrom C starts i .cost) (fitFrom C starts j .cost)
+  of-starts : (Q : Float → Float → Type 0) (i j : ℕ) → i < length starts → j < length starts → Q (costAt i) (costAt j)
+      → Q (fitFrom C starts i .cost) (fitFrom C starts j .cost)
   of-starts Q i j l m q = of-start (λ f. Q (f .cost) (fitFrom C starts j .cost)) i l (of-start (λ f. Q (costAt i) (f .cost)) j m q)
 
-  of-lists : (Q : Float → Float → Type 0) (i j : ℕ) → i < length starts → j < length starts → Q (fitFrom C starts i .cost) (fitFrom C starts j .cost) → Q (costAt i) (costAt j)
+  of-lists : (Q : Float → Float → Type 0) (i j : ℕ) → i < length starts → j < length starts → Q (fitFrom C starts i .cost) (fitFrom C starts j .cost)
+      → Q (costAt i) (costAt j)
   of-lists Q i j l m q = of-list (λ f. Q (f .cost) (costAt j)) i l (of-list (λ f. Q (fitFrom C starts i .cost) (f .cost)) j m q)
 
   leads-is : (i : ℕ) → chosenBest ≡ some i → Leads C starts i
@@ -148,7 +154,8 @@ module _ (C : Chosen) (starts : List (List Float)) where
       let here : i < length starts = listed i (b .below) in
       record {
         weighed = weighed-is i here (b .candidate);
-        cheapest = λ j w. let l : j < length starts = w .converges .listed in of-starts (λ x y. T (le x y)) i j here l (b .cheapest j (listed-back j l) (is-weighed j w));
+        cheapest = λ j w. let l : j < length starts = w .converges .listed in
+            of-starts (λ x y. T (le x y)) i j here l (b .cheapest j (listed-back j l) (is-weighed j w));
         earliest = λ j m w. of-starts (λ x y. T (lt x y)) i j here (w .converges .listed) (b .earliest j m (is-weighed j w));
       }
 
@@ -163,7 +170,8 @@ module _ (C : Chosen) (starts : List (List Float)) where
         below = listed-back i here;
         candidate = is-weighed i (h .weighed);
         cheapest = λ j l t. of-lists (λ x y. T (le x y)) i j here (listed j l) (h .cheapest j (weighed-is j (listed j l) t));
-        earliest = λ j m t. let l : j < length starts = omega (arith, here) in of-lists (λ x y. T (lt x y)) i j here l (h .earliest j m (weighed-is j l t));
+        earliest = λ j m t. let l : j < length starts = omega (arith, here) in
+            of-lists (λ x y. T (lt x y)) i j here l (h .earliest j m (weighed-is j l t));
       }
 
   none-weighed : chosenBest ≡ none → (j : ℕ) → Weighed C starts j → ⊥
@@ -175,7 +183,8 @@ module _ (C : Chosen) (starts : List (List Float)) where
   -- ---- whether one of the fits passes a test
   some-any : (p : Fit → Bool) (j : ℕ) → j < length starts → T (p (fitFrom C starts j)) → any p fits ≡ true
   some-any p j l t =
-      T→eq (any p fits) (lt→ltb 0 (count (λ i. p (fitAt fits i)) (length fits)) (count-pos (λ i. p (fitAt fits i)) (length fits) j (listed-back j l) (of-list (λ f. T (p f)) j l t)))
+      T→eq (any p fits) (lt→ltb 0 (count (λ i. p (fitAt fits i)) (length fits))
+      (count-pos (λ i. p (fitAt fits i)) (length fits) j (listed-back j l) (of-list (λ f. T (p f)) j l t)))
 
   any-some : (p : Fit → Bool) → any p fits ≡ true → (j : ℕ) × (j < length starts) × T (p (fitFrom C starts j))
   any-some p e =
@@ -206,7 +215,8 @@ module _ (C : Chosen) (starts : List (List Float)) where
         let far : Bool = lt (chi2Limit 4) (distance top f) in
         record {
           weighed = w;
-          costs = le-of-not-lt (top .cost ⊕ decimal 9 0) (f .cost) nine (cost-number C (getD starts j []) (w .converges .converged)) (and-l low far alike);
+          costs = le-of-not-lt (top .cost ⊕ decimal 9 0) (f .cost) nine (cost-number C (getD starts j []) (w .converges .converged))
+              (and-l low far alike);
           outside = and-r low far alike;
         }
 
@@ -324,7 +334,11 @@ module _ (C : Chosen) (starts : List (List Float)) where
 pub answered : (C : Chosen) (starts : List (List Float)) → Answered C starts
 answered C starts = record {
   numbers = λ i h. cost-number C (getD starts i []) h;
-  found = λ fit. ((λ e. found-so C starts fit (came C starts) (sym (out C starts) ∙ e)), λ b. led-alone C starts (b .0) (b .1 .leads) (b .1 .alone) ∙ ap gives (sym (b .1 .from)));
+  found = λ fit. (
+    (λ e. found-so C starts fit (came C starts) (sym (out C starts) ∙ e)),
+    λ b. led-alone C starts (b .0) (b .1 .leads) (b .1 .alone)
+        ∙ ap gives (sym (b .1 .from)),
+  );
   ambiguous = ((λ e. ambiguous-so C starts (came C starts) (sym (out C starts) ∙ e)), λ h. came-out C starts (rivalled h));
   noConvergence = ((λ e. unconverged-so C starts (came C starts) (sym (out C starts) ∙ e)), λ h. of-none-converges C starts h);
   outOfRange = ((λ e. implausible-so C starts (came C starts) (sym (out C starts) ∙ e)), λ h. of-none-plausible C starts h);

@@ -35,6 +35,8 @@ module _ (sites : List Float) (index : List ℕ) (out : List Float) where
       known : List Float
       known = sitesTo sites index out k
 
-      go : (a ≡ k) ⊎ (a < k) → (a < k → siteAt known a ≡ siteAt sites (pick index a)) → siteAt (putSite known k (siteAt sites (pick index k))) a ≡ siteAt sites (pick index a)
-      go (inl e) f = subst (λ (j : ℕ). siteAt (putSite known k (siteAt sites (pick index k))) j ≡ siteAt sites (pick index j)) (sym e) (put-here known k (siteAt sites (pick index k)) (omega (arith, sites-length k)))
+      go : (a ≡ k) ⊎ (a < k) → (a < k → siteAt known a ≡ siteAt sites (pick index a)) → siteAt (putSite known k (siteAt sites (pick index k))) a
+          ≡ siteAt sites (pick index a)
+      go (inl e) f = subst (λ (j : ℕ). siteAt (putSite known k (siteAt sites (pick index k))) j ≡ siteAt sites (pick index j)) (sym e)
+          (put-here known k (siteAt sites (pick index k)) (omega (arith, sites-length k)))
       go (inr q) f = put-other known k a (siteAt sites (pick index k)) q ∙ f q

@@ -27,7 +27,8 @@ use Rattle.best.specs.declared.Unfit.{Unfit}
 use Rattle.best.specs.declared.Unfit.the-variants.{NoConvergence, OutOfRange, Ambiguous, Singular}
 use Rattle.best.specs.declared.BestAt.{BestAt}
 use Rattle.best.specs.Plausible.{plausible}
-use Rattle.best.specs.Best.{Outcome, gives, fails, asBest, explainsAlike, fitAt, cheaper, any, weighed, rival, bestOf, judged, best, whitened, bestFit}
+use Rattle.best.specs.Best.{Outcome, gives, fails, asBest, explainsAlike, fitAt, cheaper, any, weighed, rival, bestOf, judged, best, whitened}
+use Rattle.best.specs.Best.{bestFit}
 use Rattle.best.specs.Held.{asBestAt}
 use Rattle.best.proofs.Cheapest as cheapest
 
@@ -62,9 +63,11 @@ module _ {sites : List Float} {k : ℕ} {fits : List Fit} {n top : ℕ} {S : Sub
   pub top-converged : top < 32 → fitAt fits top .ok ≡ true
   top-converged h =
       let t = cheapest.chosen S (cheaper fits) n top (chosen-some S (cheaper fits) n top (held .few) (held .index) h) .0 in
-      is-true (fitAt fits top .ok) (and-l (fitAt fits top .ok) (plausible sites k (fitAt fits top .params)) (subst (λ (R : Subset). T (R top)) (held .set) t))
+      is-true (fitAt fits top .ok) (and-l (fitAt fits top .ok) (plausible sites k (fitAt fits top .params))
+      (subst (λ (R : Subset). T (R top)) (held .set) t))
 
-  module _ (r : Bool) (h : top < 32) (fit : Fit) (f : fit ≡ fitAt fits top) (e : r ≡ ltb 0 (count (λ i. S i && explainsAlike fit (fitAt fits i)) n)) where
+  module _ (r : Bool) (h : top < 32) (fit : Fit) (f : fit ≡ fitAt fits top)
+      (e : r ≡ ltb 0 (count (λ i. S i && explainsAlike fit (fitAt fits i)) n)) where
     rivalled : r ≡ any (rival sites k (fitAt fits top)) fits
     rivalled =
         e ∙ ap₂ (λ (R : Subset) (m : ℕ). ltb 0 (count (λ i. R i && explainsAlike fit (fitAt fits i)) m)) (held .set) (sym (held .all))
@@ -88,7 +91,8 @@ module _ {sites : List Float} {k : ℕ} {fits : List Fit} {n top : ℕ} {S : Sub
     no-convergence g = rw (none-is h, ← e, g)
 
 -- ---- the whitener first, whose answer the code holds as a flag b beside the array l
-module _ (clock : List Float) (n : ℕ) (noise : List Float) (index : List ℕ) (sites z : List Float) (k : ℕ) (altitude : Altitude) (starts : List (List Float))
+module _ (clock : List Float) (n : ℕ) (noise : List Float) (index : List ℕ) (sites z : List Float) (k : ℕ) (altitude : Altitude)
+    (starts : List (List Float))
     (b : Bool) (l : List Float) (e : verdict b l ≡ whitener clock n noise index k zeros) where
   abbrev outcome : Outcome Unfit Fit
   outcome = bestFit clock n noise index sites z k altitude starts
@@ -97,7 +101,8 @@ module _ (clock : List Float) (n : ℕ) (noise : List Float) (index : List ℕ) 
   unfolding bestFit
   told-by f = ap (λ (F : factor.Factor). whitened F (λ w. best (chosen k sites z w altitude) starts)) f
 
-  pub whitened-found : b ≡ true → (fits : List Fit) → fits ≡ map (levenbergMarquardt (chosen k sites z l altitude)) starts → judged sites k fits (bestOf sites k fits) ≡ outcome
+  pub whitened-found : b ≡ true → (fits : List Fit) → fits ≡ map (levenbergMarquardt (chosen k sites z l altitude)) starts
+      → judged sites k fits (bestOf sites k fits) ≡ outcome
   unfolding best
   whitened-found t fits f =
       ap (λ (fs : List Fit). judged sites k fs (bestOf sites k fs)) f

@@ -20,13 +20,15 @@ use Rattle.best.specs.Best.{pointsTo}
 pub points-length : (at : List Float) (n : ℕ) → length (pointsTo at n) ≡ n
 unfolding pointsTo
 points-length at zero = refl
-points-length at (suc n) = length-append (pointsTo at n) (point at n ∷ []) ∙ (let e = points-length at n in let f : length (pointsTo at n) + 1 ≡ suc n = omega arith in f)
+points-length at (suc n) = length-append (pointsTo at n) (point at n ∷ [])
+    ∙ (let e = points-length at n in let f : length (pointsTo at n) + 1 ≡ suc n = omega arith in f)
 
 pub points-at : (at : List Float) (n i : ℕ) → i < n → getD (pointsTo at n) i [] ≡ point at i
 unfolding pointsTo
 points-at at zero i h = absurd (omega arith)
 points-at at (suc n) i h = elim (lt-suc-cases i n h) [
-  | inl e ↦ subst (λ (j : ℕ). getD (pointsTo at n ++ (point at n ∷ [])) j [] ≡ point at j) (sym e) (getD-at (pointsTo at n) (point at n) [] [] n (points-length at n))
+  | inl e ↦ subst (λ (j : ℕ). getD (pointsTo at n ++ (point at n ∷ [])) j [] ≡ point at j) (sym e)
+      (getD-at (pointsTo at n) (point at n) [] [] n (points-length at n))
   | inr l ↦ List·getD-append (pointsTo at n) (point at n ∷ []) [] i (subst (λ (m : ℕ). i < m) (sym (points-length at n)) l) ∙ points-at at n i l
 ]
 

@@ -28,15 +28,20 @@ use Rattle.best.proofs.Gathering.{sites-at}
 
 module _ (R : Receptions) (S : Subset) (previous : Option (List Float)) (fit : Fit) (n : R .n ≤ 32) where
   -- reception j of S stands at some place of the gathered ones
-  near-over : (l : List Float) (i : ℕ) → IsBest (chosenOver R S l) (startsOver R S previous) fit i → (j : ℕ) → j < R .n → T (S j) → T (le (range (R .site) (position (fit .params)) j) maxRangeM)
+  near-over : (l : List Float) (i : ℕ) → IsBest (chosenOver R S l) (startsOver R S previous) fit i → (j : ℕ) → j < R .n → T (S j)
+      → T (le (range (R .site) (position (fit .params)) j) maxRangeM)
   near-over l i b j h t =
       let p : Placed S (replicate 32 0) (R .n) j = placed S (replicate 32 0) (R .n) j n h t in
       let few : count S (R .n) ≤ R .n = count-le S (R .n) in
-      let same : siteAt (subsetSites (R .site) (R .n) S) (p .place) ≡ siteAt (R .site) j = sites-at (R .site) (subset (R .n) S) (replicate 96 nought) (count S (R .n)) (rw (length-replicate 96 nought) (omega arith)) (p .place) (p .below) ∙ ap (siteAt (R .site)) (p .there) in
+      let same : siteAt (subsetSites (R .site) (R .n) S) (p .place) ≡ siteAt (R .site) j =
+      sites-at (R .site) (subset (R .n) S) (replicate 96 nought) (count S (R .n)) (rw (length-replicate 96 nought) (omega arith)) (p .place)
+      (p .below) ∙ ap (siteAt (R .site)) (p .there) in
       subst (λ (s : List Float). T (le (norm (sub (position (fit .params)) s)) maxRangeM)) same
-      (subst (λ (g : Fit). T (le (range (subsetSites (R .site) (R .n) S) (position (g .params)) (p .place)) maxRangeM)) (sym (b .from)) (b .leads .weighed .plausible .near (p .place) (p .below)))
+      (subst (λ (g : Fit). T (le (range (subsetSites (R .site) (R .n) S) (position (g .params)) (p .place)) maxRangeM)) (sym (b .from))
+      (b .leads .weighed .plausible .near (p .place) (p .below)))
 
-  best-over : (l : List Float) (i : ℕ) → whitenerOver R S ≡ factor.found l → IsBest (chosenOver R S l) (startsOver R S previous) fit i → IsBestOver R S previous fit l i
+  best-over : (l : List Float) (i : ℕ) → whitenerOver R S ≡ factor.found l → IsBest (chosenOver R S l) (startsOver R S previous) fit i
+      → IsBestOver R S previous fit l i
   best-over l i w b = record { whitens = w; best = b; near = near-over l i b }
 
 -- ---- what a round answers, by its whitener
@@ -49,7 +54,8 @@ module _ (R : Receptions) (S : Subset) (previous : Option (List Float)) where
   by-whitener F e = ap (λ (x : factor.Factor). whitened x bestOver) e
 
   -- an outcome that is not 6 is the best over whitened receptions
-  not-refused : (o : Outcome Unfit Fit) → (fails Singular ≡ o → ⊥) → bestFitOver R S previous ≡ o → (l : List Float) × (whitenerOver R S ≡ factor.found l) × (bestOver l ≡ o)
+  not-refused : (o : Outcome Unfit Fit) → (fails Singular ≡ o → ⊥) → bestFitOver R S previous ≡ o → (l : List Float)
+      × (whitenerOver R S ≡ factor.found l) × (bestOver l ≡ o)
   not-refused o never e = go (whitenerOver R S) refl
     where
       go : (F : factor.Factor) → whitenerOver R S ≡ F → (l : List Float) × (whitenerOver R S ≡ factor.found l) × (bestOver l ≡ o)
@@ -79,12 +85,17 @@ module _ (R : Receptions) (S : Subset) (previous : Option (List Float)) where
   singular-over : (bestFitOver R S previous ≡ fails Singular) ↔ ((l : List Float) × (whitenerOver R S ≡ factor.refused l))
   singular-over = ((λ e. go (whitenerOver R S) refl e), λ h. by-whitener (factor.refused (h .0)) (h .1))
     where
-      go : (F : factor.Factor) → whitenerOver R S ≡ F → bestFitOver R S previous ≡ fails Singular → (l : List Float) × (whitenerOver R S ≡ factor.refused l)
+      go : (F : factor.Factor) → whitenerOver R S ≡ F → bestFitOver R S previous ≡ fails Singular → (l : List Float)
+          × (whitenerOver R S ≡ factor.refused l)
       go (factor.found l) w e = absurd (answered (chosenOver R S l) (startsOver R S previous) .notSingular (sym (by-whitener (factor.found l) w) ∙ e))
       go (factor.refused l) w e = (l, w)
 
   found-over : R .n ≤ 32 → (fit : Fit) → (bestFitOver R S previous ≡ gives fit) ↔ ((l : List Float) × (i : ℕ) × IsBestOver R S previous fit l i)
-  found-over n fit = (to, λ h. over (gives fit) (h .0) (h .2 .whitens) (answered (chosenOver R S (h .0)) (startsOver R S previous) .found fit .1 (h .1, h .2 .best)))
+  found-over n fit = (
+    to,
+    λ h. over (gives fit) (h .0) (h .2 .whitens)
+        (answered (chosenOver R S (h .0)) (startsOver R S previous) .found fit .1 (h .1, h .2 .best)),
+  )
     where
       to : bestFitOver R S previous ≡ gives fit → (l : List Float) × (i : ℕ) × IsBestOver R S previous fit l i
       to e =
@@ -95,8 +106,11 @@ module _ (R : Receptions) (S : Subset) (previous : Option (List Float)) where
 pub answered-over : (R : Receptions) (S : Subset) (previous : Option (List Float)) → AnsweredOver R S previous
 answered-over R S previous = record {
   found = found-over R S previous;
-  ambiguous = refused-over R S previous Ambiguous Rivalled (λ e. let z : _≡_ {A = ℕ} 0 1 = cc in omega arith) (λ C starts. answered C starts .ambiguous);
-  noConvergence = refused-over R S previous NoConvergence NoneConverges (λ e. let z : _≡_ {A = ℕ} 0 1 = cc in omega arith) (λ C starts. answered C starts .noConvergence);
-  outOfRange = refused-over R S previous OutOfRange NonePlausible (λ e. let z : _≡_ {A = ℕ} 0 1 = cc in omega arith) (λ C starts. answered C starts .outOfRange);
+  ambiguous = refused-over R S previous Ambiguous Rivalled (λ e. let z : _≡_ {A = ℕ} 0 1 = cc in omega arith)
+      (λ C starts. answered C starts .ambiguous);
+  noConvergence = refused-over R S previous NoConvergence NoneConverges (λ e. let z : _≡_ {A = ℕ} 0 1 = cc in omega arith)
+      (λ C starts. answered C starts .noConvergence);
+  outOfRange = refused-over R S previous OutOfRange NonePlausible (λ e. let z : _≡_ {A = ℕ} 0 1 = cc in omega arith)
+      (λ C starts. answered C starts .outOfRange);
   singular = singular-over R S previous;
 }

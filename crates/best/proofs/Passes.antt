@@ -77,8 +77,10 @@ module _ (f : List Float → Placed) (at : List Float) where
   fits-turn i fit h g =
       let rest : List Placed = replicate (18 - (i + 1)) (placed unfitted) in
       let room : 18 - i ≡ suc (18 - (i + 1)) = omega arith in
-      ap₂ (λ (m j : ℕ). set (made i ++ replicate m (placed unfitted)) j fit) room (sym (made-length i)) ∙ set-append-seam (made i) (placed unfitted) rest fit ∙ ap (λ (x : Placed). made i ++ x ∷ rest) g
-      ∙ sym (append-snoc (made i) (f (point at i)) rest) ∙ ap (λ (fs : List Placed). fs ++ rest) (sym (map-append f (pointsTo at i) (point at i ∷ [])) ∙ ap made (sym (add-one i)))
+      ap₂ (λ (m j : ℕ). set (made i ++ replicate m (placed unfitted)) j fit) room (sym (made-length i))
+      ∙ set-append-seam (made i) (placed unfitted) rest fit ∙ ap (λ (x : Placed). made i ++ x ∷ rest) g
+      ∙ sym (append-snoc (made i) (f (point at i)) rest)
+      ∙ ap (λ (fs : List Placed). fs ++ rest) (sym (map-append f (pointsTo at i) (point at i ∷ [])) ∙ ap made (sym (add-one i)))
 
   alone : (xs : List (List Float)) → fitsOf (map f xs) ≡ map (λ (x : List Float). f x .fit) xs
   alone [] = refl
@@ -101,7 +103,9 @@ module _ (f : List Float → Placed) (at : List Float) where
   fits-placed i fits e own j h =
       let within : j < length (made i) = subst (λ (m : ℕ). j < m) (sym (made-length i)) h in
       let listed : j < length (pointsTo at i) = subst (λ (m : ℕ). j < m) (sym (points-length at i)) h in
-      let is : placedAt fits j ≡ f (getD (pointsTo at i) j []) = ap (λ (fs : List Placed). placedAt fs j) e ∙ List·getD-append (made i) (replicate (18 - i) (placed unfitted)) (placedAt [] 0) j within ∙ mapped (pointsTo at i) (placedAt [] 0) j listed in
+      let is : placedAt fits j ≡ f (getD (pointsTo at i) j []) = ap (λ (fs : List Placed). placedAt fs j) e
+      ∙ List·getD-append (made i) (replicate (18 - i) (placed unfitted)) (placedAt [] 0) j within
+      ∙ mapped (pointsTo at i) (placedAt [] 0) j listed in
       is ∙ own (getD (pointsTo at i) j []) ∙ ap (λ (x : Placed). placed (x .fit)) (sym is)
 
 -- the place beside a fit that converged
@@ -130,7 +134,8 @@ module _ (p : Fit → Bool) (none : p nothing ≡ false) (fits : List Fit) where
   mask-joins i e = fun-ext (λ (j : ℕ). go j (either (ltb j i)) (either (ltb i j)))
     where
       go : (j : ℕ) → T (ltb j i) ⊎ T (not (ltb j i)) → T (ltb i j) ⊎ T (not (ltb i j)) → (passing i j || eqb j i) ≡ passing (i + 1) j
-      go j (inl l) q = let h = ltb→lt j i l in rw (ne-eqb j i (λ d. omega arith), before i j h, before (i + 1) j (omega arith)) (or-false (p (fitAt fits j)))
+      go j (inl l) q = let h = ltb→lt j i l in rw (ne-eqb j i (λ d. omega arith), before i j h, before (i + 1) j (omega arith))
+          (or-false (p (fitAt fits j)))
       go j (inr g) (inl l) = let h = ltb→lt i j l in rw (ne-eqb j i (λ d. omega arith), past i j (omega arith), past (i + 1) j (omega arith))
       go j (inr g) (inr q) =
           let d : j ≡ i = omega (arith, nltb→le j i g, nltb→le i j q) in
@@ -156,12 +161,14 @@ module _ (S : Subset) (fits : List Fit) where
   unfolding choose
   top-start least = record { index = refl; cost = λ h. absurd (omega arith) }
 
-  module _ (i top : ℕ) (least cost : Float) (h : i < 32) (e : cost ≡ fitAt fits i .cost) (t : Top i top least) (r : Bool) (f : r ≡ (S i && (leb 32 top || not (le least cost)))) where
+  module _ (i top : ℕ) (least cost : Float) (h : i < 32) (e : cost ≡ fitAt fits i .cost) (t : Top i top least) (r : Bool)
+      (f : r ≡ (S i && (leb 32 top || not (le least cost)))) where
     -- the code's test of least and cost is the definition's
     tested : r ≡ (S i && (leb 32 top || cheaper fits i top))
     tested = f ∙ elim (either (ltb top 32)) [
       | inl l ↦ ap₂ (λ (x y : Float). S i && (leb 32 top || not (le x y))) (t .cost (ltb→lt top 32 l)) e
-      | inr l ↦ let none = le-leb 32 top (nltb→le top 32 l) in ap (λ (x : Bool). S i && (x || not (le least cost))) none ∙ sym (ap (λ (x : Bool). S i && (x || cheaper fits i top)) none)
+      | inr l ↦ let none = le-leb 32 top (nltb→le top 32 l) in
+          ap (λ (x : Bool). S i && (x || not (le least cost))) none ∙ sym (ap (λ (x : Bool). S i && (x || cheaper fits i top)) none)
     ]
 
     turn : (b : Bool) → r ≡ b → cond b i top ≡ indexOf (choose S (cheaper fits) (i + 1))

@@ -40,7 +40,8 @@ unfoldable pub distance : Fit → Fit → Float
 distance best other = let delta = four (λ i. nth (other .params) i ⊖ nth (best .params) i) in
     dots (nth delta) (nth (mulVec (best .information) 4 delta (replicate 4 nought))) 4
 
--- not `other.cost > best.cost + AMBIGUOUS_COST`, which is 9, and "outside the best's own 10^-6 ellipsoid": `distance > limit`. Document 01: "Cost equal to best plus 9 is still weighed".
+-- not `other.cost > best.cost + AMBIGUOUS_COST`, which is 9, and "outside the best's own 10^-6 ellipsoid": `distance >
+-- limit`. Document 01: "Cost equal to best plus 9 is still weighed".
 abbrev pub explainsAlike : Fit → Fit → Bool
 explainsAlike best other = not (lt (best .cost ⊕ decimal 9 0) (other .cost)) && lt (chi2Limit 4) (distance best other)
 
@@ -62,7 +63,8 @@ module _ (sites : List Float) (k : ℕ) where
   abbrev pub weighed : Fit → Bool
   weighed fit = fit .ok && plausible sites k (fit .params)
 
-  -- Document 01: "A rival is a fit .. that converged, costs at most the best fit's cost plus 9 and meets the other tests by which `best_fit` answers 8."
+  -- Document 01: "A rival is a fit .. that converged, costs at most the best fit's cost plus 9 and meets the other
+  -- tests by which `best_fit` answers 8."
   abbrev pub rival : Fit → Fit → Bool
   rival best other = weighed other && explainsAlike best other
 
@@ -77,7 +79,8 @@ module _ (sites : List Float) (k : ℕ) where
 
 -- the best fit from a list of starts
 unfoldable pub best : Chosen → List (List Float) → Outcome Unfit Fit
-best C starts = let fits = map (levenbergMarquardt C) starts in judged (C .sites) (C .k) fits (bestOf (C .sites) (C .k) fits)
+best C starts = let fits = map (levenbergMarquardt C) starts in
+    judged (C .sites) (C .k) fits (bestOf (C .sites) (C .k) fits)
 
 -- `whitener(subset).ok_or(SolveError::Singular)?` comes before the fits
 abbrev pub whitened : factor.Factor → (List Float → Outcome Unfit Fit) → Outcome Unfit Fit
@@ -85,8 +88,10 @@ whitened (factor.found l) fit = fit l
 whitened (factor.refused l) fit = fails Singular
 
 -- `best_fit`, of the k receptions of `index`
-unfoldable pub bestFit : List Float → ℕ → List Float → List ℕ → List Float → List Float → ℕ → Altitude → List (List Float) → Outcome Unfit Fit
-bestFit clock n noise index sites z k altitude starts = whitened (whitener clock n noise index k zeros) (λ l. best (chosen k sites z l altitude) starts)
+unfoldable pub bestFit : List Float → ℕ → List Float → List ℕ → List Float → List Float → ℕ → Altitude
+    → List (List Float) → Outcome Unfit Fit
+bestFit clock n noise index sites z k altitude starts =
+    whitened (whitener clock n noise index k zeros) (λ l. best (chosen k sites z l altitude) starts)
 
 -- the first k starts of the array that holds them
 unfoldable pub pointsTo : List Float → ℕ → List (List Float)

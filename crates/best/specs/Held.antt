@@ -20,7 +20,10 @@ fitsOf = map (λ (x : Placed). x .fit)
 
 -- the i-th, and no fit at no place past the last of them
 abbrev pub placedAt : List Placed → ℕ → Placed
-placedAt fits i = getD fits i (record { fit = fitAt [] 0; place = record { «lat_deg» = nan; «lon_deg» = nan; «height_m» = nan } })
+placedAt fits i = getD fits i (record {
+  fit = fitAt [] 0;
+  place = record { «lat_deg» = nan; «lon_deg» = nan; «height_m» = nan };
+})
 
 -- beside each of the first stands its place
 abbrev pub EachPlaced : List Placed → ℕ → Type 0

@@ -1,4 +1,5 @@
--- What the best fit is and when each refusal is given, in words that know nothing of the computation. Statements only: proofs/Found.antt and proofs/Over.antt prove them.
+-- What the best fit is and when each refusal is given, in words that know nothing of the computation. Statements only:
+-- proofs/Found.antt and proofs/Over.antt prove them.
 use mathlib.Core.Path.{_≡_}
 use mathlib.Core.Logic.{_↔_}
 use mathlib.Core.Bool.{not}
@@ -23,7 +24,8 @@ use Rattle.best.specs.Plausible.{maxRangeM, range}
 use Rattle.best.specs.Best.{gives, fails, distance, best}
 use Rattle.best.specs.OfProblem.{Receptions, whitenerOver, chosenOver, startsOver, bestFitOver}
 
--- Demand 3: "used ranges at most 600,000 m, height -1,500 to 25,000 m", as binary64 compares. The k sites are those of the receptions C.
+-- Demand 3: "used ranges at most 600,000 m, height -1,500 to 25,000 m", as binary64 compares. The k sites are those of
+-- the receptions C.
 pub record Plausible (C : Chosen) (fit : Fit) : Type 0 where
   pub above : T (le minHeightM (fromEcef (position (fit .params)) .«height_m»))
   pub below : T (le (fromEcef (position (fit .params)) .«height_m») maxHeightM)
@@ -45,14 +47,15 @@ module _ (C : Chosen) (starts : List (List Float)) where
     pub converges : Converges j
     pub plausible : Plausible C (fitFrom j)
 
-  -- The fit from the i-th start leads: of all that are weighed, it among them, none costs less, and each from an earlier start costs more.
+  -- The fit from the i-th start leads: of all that are weighed, it among them, none costs less, and each from an
+  -- earlier start costs more.
   pub record Leads (i : ℕ) : Type 0 where
     pub weighed : Weighed i
     pub cheapest : (j : ℕ) → Weighed j → T (le (fitFrom i .cost) (fitFrom j .cost))
     pub earliest : (j : ℕ) → j < i → Weighed j → T (lt (fitFrom i .cost) (fitFrom j .cost))
 
-  -- Document 01: "A rival is a fit .. that converged, costs at most the best fit's cost plus 9 and meets the other tests by which `best_fit` answers 8": it is plausible, and "outside the best's own
-  -- 10^-6 ellipsoid".
+  -- Document 01: "A rival is a fit .. that converged, costs at most the best fit's cost plus 9 and meets the other
+  -- tests by which `best_fit` answers 8": it is plausible, and "outside the best's own 10^-6 ellipsoid".
   pub record Rival (i j : ℕ) : Type 0 where
     pub weighed : Weighed j
     pub costs : T (le (fitFrom j .cost) (fitFrom i .cost ⊕ decimal 9 0))
@@ -79,7 +82,8 @@ abbrev pub NonePlausible : Chosen → List (List Float) → Type 0
 NonePlausible C starts = ((i : ℕ) × Converges C starts i) × ((j : ℕ) → Weighed C starts j → ⊥)
 
 module _ (C : Chosen) (starts : List (List Float)) where
-  -- Each is what `best` answers exactly when it is so, and it never answers 6. A fit that converged has a number for its cost, so that costs can be ranked.
+  -- Each is what `best` answers exactly when it is so, and it never answers 6. A fit that converged has a number for
+  -- its cost, so that costs can be ranked.
   pub record Answered : Type 0 where
     pub numbers : (i : ℕ) → T (fitFrom C starts i .ok) → T (not (isNan (fitFrom C starts i .cost)))
     pub found : (fit : Fit) → (best C starts ≡ gives fit) ↔ ((i : ℕ) × IsBest C starts fit i)
@@ -90,7 +94,8 @@ module _ (C : Chosen) (starts : List (List Float)) where
 
 -- over a set S of the receptions R, after a round that found the parameters `previous`
 module _ (R : Receptions) (S : Subset) (previous : Option (List Float)) where
-  -- the fit from the i-th of the round's starts is the best, and each reception of S is within its range; l whitens the receptions
+  -- the fit from the i-th of the round's starts is the best, and each reception of S is within its range; l whitens the
+  -- receptions
   pub record IsBestOver (fit : Fit) (l : List Float) (i : ℕ) : Type 0 where
     pub whitens : whitenerOver R S ≡ factor.found l
     pub best : IsBest (chosenOver R S l) (startsOver R S previous) fit i
@@ -98,12 +103,15 @@ module _ (R : Receptions) (S : Subset) (previous : Option (List Float)) where
 
   -- some l whitens them, and this holds of what it makes of them and of the round's starts
   abbrev pub Whitened : (Chosen → List (List Float) → Type 0) → Type 0
-  Whitened Holds = (l : List Float) × (whitenerOver R S ≡ factor.found l) × Holds (chosenOver R S l) (startsOver R S previous)
+  Whitened Holds = (l : List Float) × (whitenerOver R S ≡ factor.found l)
+      × Holds (chosenOver R S l) (startsOver R S previous)
 
   -- each is what a round's `best_fit` answers exactly when it is so; 6 where "a Cholesky of covariance .. fails"
   pub record AnsweredOver : Type 0 where
-    pub found : R .n ≤ 32 → (fit : Fit) → (bestFitOver R S previous ≡ gives fit) ↔ ((l : List Float) × (i : ℕ) × IsBestOver fit l i)
+    pub found : R .n ≤ 32 → (fit : Fit) → (bestFitOver R S previous ≡ gives fit)
+        ↔ ((l : List Float) × (i : ℕ) × IsBestOver fit l i)
     pub ambiguous : (bestFitOver R S previous ≡ fails Ambiguous) ↔ Whitened Rivalled
     pub noConvergence : (bestFitOver R S previous ≡ fails NoConvergence) ↔ Whitened NoneConverges
     pub outOfRange : (bestFitOver R S previous ≡ fails OutOfRange) ↔ Whitened NonePlausible
-    pub singular : (bestFitOver R S previous ≡ fails Singular) ↔ ((l : List Float) × (whitenerOver R S ≡ factor.refused l))
+    pub singular : (bestFitOver R S previous ≡ fails Singular)
+        ↔ ((l : List Float) × (whitenerOver R S ≡ factor.refused l))

@@ -1,4 +1,5 @@
--- The best fit over a set of a problem's receptions, as a round of `solve_problem` makes it: `subset`, `whitener`, `starts` and `best_fit`. Definitions only.
+-- The best fit over a set of a problem's receptions, as a round of `solve_problem` makes it: `subset`, `whitener`,
+-- `starts` and `best_fit`. Definitions only.
 use mathlib.Core.Bool.{true, false}
 use mathlib.Core.List.{List}
 use mathlib.Core.Option.{Option, none, some}
@@ -29,7 +30,14 @@ pub record Receptions : Type 0 where
   pub altitude : Altitude
 
 abbrev pub receptions : List Float → List Float → List Float → List Float → ℕ → Altitude → Receptions
-receptions site z noise clock n altitude = record { n = n; site = site; z = z; noise = noise; clock = clock; altitude = altitude }
+receptions site z noise clock n altitude = record {
+  n = n;
+  site = site;
+  z = z;
+  noise = noise;
+  clock = clock;
+  altitude = altitude;
+}
 
 abbrev pub receptionsOf : Problem → Receptions
 receptionsOf P = receptions (P .site) (P .z) (P .«noise_m2») (P .«clock_m2») (P .n) (P .altitude)
@@ -56,8 +64,10 @@ module _ (R : Receptions) (S : Subset) where
 
   -- their starts, the parameters of the round before first where there was one
   abbrev pub startsOver : Option (List Float) → List (List Float)
-  startsOver none = startsAfter false (replicate 4 nought) (subsetSites (R .site) (R .n) S) (subsetZ (R .z) (R .n) S) (count S (R .n)) (R .altitude)
-  startsOver (some previous) = startsAfter true previous (subsetSites (R .site) (R .n) S) (subsetZ (R .z) (R .n) S) (count S (R .n)) (R .altitude)
+  startsOver none = startsAfter false (replicate 4 nought) (subsetSites (R .site) (R .n) S) (subsetZ (R .z) (R .n) S)
+      (count S (R .n)) (R .altitude)
+  startsOver (some previous) = startsAfter true previous (subsetSites (R .site) (R .n) S) (subsetZ (R .z) (R .n) S)
+      (count S (R .n)) (R .altitude)
 
   -- the round's best fit
   unfoldable pub bestFitOver : Option (List Float) → Outcome Unfit Fit

@@ -19,7 +19,8 @@ ghost use Rattle.whitening.specs.Whitened.{chosen};
 ghost use Rattle.damped.specs.Damped.{unfitted, levenbergMarquardt};
 ghost use Rattle.damped.specs.Placed.{nowhere, placed};
 ghost use Rattle.best.specs.Plausible.{maxRangeM, range, nearTo, plausible};
-ghost use Rattle.best.specs.Best.{fails, distance, explainsAlike, fitAt, cheaper, any, weighed, bestOf, judged, pointsTo, bestFit};
+ghost use Rattle.best.specs.Best.{fails, distance, explainsAlike, fitAt, cheaper, any, weighed, bestOf, judged};
+ghost use Rattle.best.specs.Best.{pointsTo, bestFit};
 ghost use Rattle.best.specs.Held.{EachPlaced, fitsOf, asBestAt};
 use damped::Fit;
 use damped::Placed;
@@ -154,7 +155,9 @@ fn fits(
     count: usize,
 ) -> [Placed; 18]
     requires { ⌜ (k ≤ 32) × (count ≤ 18) ⌝ }
-    ensures { λ r. ⌜ r ≡ map (λ p. placed (levenbergMarquardt (chosen k (now (sites .entry)) (now (z .entry)) (now (l .entry)) altitude) p)) (pointsTo (now (at .entry)) count) ++ replicate (18 - count) (placed unfitted) ⌝ }
+    ensures { λ r. ⌜ r ≡ map (λ p. placed
+        (levenbergMarquardt (chosen k (now (sites .entry)) (now (z .entry)) (now (l .entry)) altitude) p))
+        (pointsTo (now (at .entry)) count) ++ replicate (18 - count) (placed unfitted) ⌝ }
 {
     let none = no_placed();
     let mut fits = [none; 18];
@@ -265,7 +268,8 @@ fn rival(best: Fit, other: Fit, limit: f64) -> bool
 // Whether one of the fits in the mask is a rival of the best.
 fn rivalled(fits: [Placed; 18], mask: u32, best: Fit, count: usize) -> bool
     requires { ⌜ count ≤ 18 ⌝ }
-    ensures { λ r. ⌜ r ≡ ltb 0 (sets.count (λ i. has mask i && explainsAlike best (fitAt (take count (fitsOf fits)) i)) count) ⌝ }
+    ensures { λ r. ⌜ r ≡ ltb 0 (sets.count
+        (λ i. has mask i && explainsAlike best (fitAt (take count (fitsOf fits)) i)) count) ⌝ }
 {
     let limit = limits::chi2_limit(4);
     let mut so_far = false;
@@ -293,7 +297,8 @@ fn refused(why: Unfit) -> BestAt
 // What the fits come to.
 fn judged(sites: &[f64; 96], k: usize, fits: [Placed; 18], count: usize) -> BestAt
     requires { ⌜ (k ≤ 32) × (count ≤ 18) × EachPlaced fits count ⌝ }
-    ensures { λ r. ⌜ r ≡ asBestAt (judged (now (sites .entry)) k (take count (fitsOf fits)) (bestOf (now (sites .entry)) k (take count (fitsOf fits)))) ⌝ }
+    ensures { λ r. ⌜ r ≡ asBestAt (judged (now (sites .entry)) k (take count (fitsOf fits))
+        (bestOf (now (sites .entry)) k (take count (fitsOf fits)))) ⌝ }
 {
     let mask = weighed(sites, k, fits, count);
     let top = best_of(fits, mask, count);
@@ -335,7 +340,8 @@ pub fn best_fit(
 ) -> BestAt
     requires { ⌜ (n ≤ 32) × (k ≤ 32) × (count ≤ 18) ⌝ }
     requires { ⌜ ((a : ℕ) → a < k → pick (now index) a < n) ⌝ }
-    ensures { λ r. ⌜ r ≡ asBestAt (bestFit (now («clock_m2» .entry)) n (now («noise_m2» .entry)) (now (index .entry)) (now (sites .entry)) (now (z .entry)) k altitude (pointsTo (now (at .entry)) count)) ⌝ }
+    ensures { λ r. ⌜ r ≡ asBestAt (bestFit (now («clock_m2» .entry)) n (now («noise_m2» .entry)) (now (index .entry))
+        (now (sites .entry)) (now (z .entry)) k altitude (pointsTo (now (at .entry)) count)) ⌝ }
 {
     let mut factor = Cholesky {
         n: k,

@@ -64,7 +64,8 @@ written-law r h lo hi = elim (eq-or-lt-of-le hi) [
 
 -- the format reaches so far
 pub in-reach : (r h : ℕ) → r ≤ 2 ^ 53 → h ≤ 2000 → r * 2 ^ h < 2 ^ 2098
-in-reach r h hi l = lt-of-le-of-lt (mul-le-mul-right (2 ^ h) hi) (lt-of-le-of-lt (le-of-eq (sym (pow-add 2 53 h))) (pow-lt {i = 53 + h} {j = 2098} (omega arith)))
+in-reach r h hi l = lt-of-le-of-lt (mul-le-mul-right (2 ^ h) hi)
+    (lt-of-le-of-lt (le-of-eq (sym (pow-add 2 53 h))) (pow-lt {i = 53 + h} {j = 2098} (omega arith)))
 
 pub bits-law : (r h : ℕ) → 2 ^ 52 ≤ r → r ≤ 2 ^ 53 → h ≤ 2000 → ofBits binary64 (h * 2 ^ 52 + r) ≡ units binary64 false r h
 bits-law r h lo hi l =

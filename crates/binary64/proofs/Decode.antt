@@ -39,7 +39,8 @@ no-zero m a e h p = ne-eqb m 0 (λ z. none m (up e) (2 ^ 1074) (a * down e) z h 
 
 scaled : (n d a : ℕ) → 0 < d → n * 2 ^ 1074 ≡ a * d → n * 2 ^ 2148 / d ≡ a * 2 ^ 1074
 scaled n d a p h =
-    ap (λ (x : ℕ). x / d) (ap (λ (x : ℕ). n * x) (pow-add 2 1074 1074) ∙ sym (mul-assoc n (2 ^ 1074) (2 ^ 1074)) ∙ ap (λ (x : ℕ). x * 2 ^ 1074) h ∙ mul-right-comm a d (2 ^ 1074))
+    ap (λ (x : ℕ). x / d) (ap (λ (x : ℕ). n * x) (pow-add 2 1074 1074) ∙ sym (mul-assoc n (2 ^ 1074) (2 ^ 1074)) ∙ ap (λ (x : ℕ). x * 2 ^ 1074) h
+    ∙ mul-right-comm a d (2 ^ 1074))
     ∙ mul-div-cancel (a * 2 ^ 1074) p
 
 pub root-value : (v : Float) (a : ℕ) → HasValue v false a (2 ^ 1074) → 0 < a → root v ≡ rootUnits (a * 2 ^ 1074)

@@ -1,5 +1,6 @@
--- Edges of the root, of rounding and of `max`, each computed. Document 01's own are quoted; those of zeros, infinities and not-a-numbers are in Meaning.antt. Assumes nothing.
--- `fin s m (pos k)` is m * 2 ^ k and `fin s m (negsuc k)` is m * 2 ^ -(k + 1), negative where s is true: so 2.5 is `fin false 5 (negsuc 0)`.
+-- Edges of the root, of rounding and of `max`, each computed. Document 01's own are quoted; those of zeros, infinities and not-a-numbers are in
+-- Meaning.antt. Assumes nothing. `fin s m (pos k)` is m * 2 ^ k and `fin s m (negsuc k)` is m * 2 ^ -(k + 1), negative where s is true: so 2.5 is
+-- `fin false 5 (negsuc 0)`.
 use mathlib.Core.Path.{_≡_, refl}
 use mathlib.Core.Bool.{true, false}
 use lib.IntN.{pos, negsuc}

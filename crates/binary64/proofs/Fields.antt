@@ -21,7 +21,8 @@ unfolding abs ofFields
 abs-fields s zero t = abs-odd 53 s t 0 1074
 abs-fields s (suc x) t = go (eqb (suc x) 2047) (eqb t 0)
   where
-    go : (b c : Bool) → abs (cond b (cond c (inf s) nan) (odd 53 s (2 ^ 52 + t) x 1074)) ≡ cond b (cond c (inf false) nan) (odd 53 false (2 ^ 52 + t) x 1074)
+    go : (b c : Bool) → abs (cond b (cond c (inf s) nan) (odd 53 s (2 ^ 52 + t) x 1074))
+        ≡ cond b (cond c (inf false) nan) (odd 53 false (2 ^ 52 + t) x 1074)
     go true true = refl
     go true false = refl
     go false c = abs-odd 53 s (2 ^ 52 + t) x 1074

@@ -24,7 +24,8 @@ small r h =
 square : (P a b c r : ℕ) → a * P + b ≡ r → r * r + c ≡ (a * a * P + 2 * a * b) * P + (b * b + c)
 square P a b c r e = rw (← e) (omega arith)
 
-pub fold-law : (r c : ℕ) → let a = r / 2 ^ 26 in let b = bitAnd r 0x3ff_ffff in a * a + (2 * a * b + (b * b + c) / 2 ^ 26) / 2 ^ 26 ≡ (r * r + c) / 2 ^ 52
+pub fold-law : (r c : ℕ) → let a = r / 2 ^ 26 in let b = bitAnd r 0x3ff_ffff in
+    a * a + (2 * a * b + (b * b + c) / 2 ^ 26) / 2 ^ 26 ≡ (r * r + c) / 2 ^ 52
 fold-law r c =
     let P = 2 ^ 26 in
     let a = r / P in

@@ -2,7 +2,8 @@
 use mathlib.Core.Path.{_≡_, refl, sym, ap, _∙_, subst}
 use mathlib.Core.Logic.{_⊎_, inl, inr}
 use Prim.Native.Nat.{ℕ, zero, suc, _+_, _-_, _*_, _/_, _^_, _≤_, _<_}
-use native.Mathlib.Nat.{lt-of-lt-of-le, zero-lt-suc, mul-one, mul-comm, mul-left-comm, mul-right-comm, mul-pos, eq-of-mul-eq-mul-right, eq-or-lt-of-le, pow-succ', div-eq-of-lt}
+use native.Mathlib.Nat.{lt-of-lt-of-le, zero-lt-suc, mul-one, mul-comm, mul-left-comm, mul-right-comm, mul-pos, eq-of-mul-eq-mul-right}
+use native.Mathlib.Nat.{eq-or-lt-of-le, pow-succ', div-eq-of-lt}
 use native.Mathlib.Omega.{arith}
 use mathlib.Core.Bool.{Bool, true, false, cond}
 use lib.Dec.{T, ltb, eqb, lit≤}
@@ -28,23 +29,29 @@ half-value (inf t) s a h = absurd h
 half-value (fin t m e) s a h =
     ap (λ (b : Bool). round binary64 b ((2 * (m * up e) + down e) / (2 * down e)) 1) (h .0)
     ∙ ap (λ (q : ℕ). round binary64 s q 1)
-    (div-same (2 * (m * up e) + down e) (2 * down e) (2 * a + 2 ^ 1074) (2 * 2 ^ 1074) (mul-pos (zero-lt-suc 1) (down-pos e)) (pow-pos 1075) (cross (m * up e) (down e) a (2 ^ 1074) (h .1)))
+    (div-same (2 * (m * up e) + down e) (2 * down e) (2 * a + 2 ^ 1074) (2 * 2 ^ 1074) (mul-pos (zero-lt-suc 1) (down-pos e)) (pow-pos 1075)
+    (cross (m * up e) (down e) a (2 ^ 1074) (h .1)))
 
 -- ---- below a half
 below-half : (a L : ℕ) → 2 * a < L → (2 * a + L) / (2 * L) ≡ 0
 below-half a L h = div-eq-of-lt (omega arith)
 
 pub small-half : (s : Bool) (x t : ℕ) → x < 1022 → t < 2 ^ 52 → halfAway (ofFields binary64 s x t) ≡ round binary64 s 0 1
-small-half s zero t l h = half-value (ofFields binary64 s 0 t) s t (fields-low s t) ∙ ap (λ (q : ℕ). round binary64 s q 1) (below-half t (2 ^ 1074) (lt-of-lt-of-le {m = 2 ^ 53} (omega arith) (pow-mono {i = 53} {j = 1074} (lit≤ tt))))
+small-half s zero t l h = half-value (ofFields binary64 s 0 t) s t (fields-low s t)
+    ∙ ap (λ (q : ℕ). round binary64 s q 1) (below-half t (2 ^ 1074)
+    (lt-of-lt-of-le {m = 2 ^ 53} (omega arith) (pow-mono {i = 53} {j = 1074} (lit≤ tt))))
 small-half s (suc x) t l h =
     half-value (ofFields binary64 s (suc x) t) s ((2 ^ 52 + t) * 2 ^ x) (fields-mid s x t (omega arith))
-    ∙ ap (λ (q : ℕ). round binary64 s q 1) (below-half ((2 ^ 52 + t) * 2 ^ x) (2 ^ 1074) (double ((2 ^ 52 + t) * 2 ^ x) (2 ^ 1073) (2 ^ 1074) refl (lt-of-lt-of-le (shl-lt 53 x (omega arith)) (pow-mono {i = 53 + x} {j = 1073} (omega arith)))))
+    ∙ ap (λ (q : ℕ). round binary64 s q 1) (below-half ((2 ^ 52 + t) * 2 ^ x) (2 ^ 1074)
+    (double ((2 ^ 52 + t) * 2 ^ x) (2 ^ 1073) (2 ^ 1074) refl
+    (lt-of-lt-of-le (shl-lt 53 x (omega arith)) (pow-mono {i = 53 + x} {j = 1073} (omega arith)))))
   where
     double : (a H L : ℕ) → 2 * H ≡ L → a < H → 2 * a < L
     double a H L e h = omega arith
 
 -- ---- from a half up to 2 ^ 52: with x = 1074 - k the size is m * 2 ^ (1073 - k) units, and 2 ^ 1074 is 2 ^ k * 2 ^ (1074 - k)
-pub mid-half : (s : Bool) (x t k : ℕ) → 1022 ≤ x → k + x ≡ 1074 → halfAway (ofFields binary64 s x t) ≡ round binary64 s ((t + 2 ^ 52 + 2 ^ k) / 2 ^ (k + 1)) 1
+pub mid-half : (s : Bool) (x t k : ℕ) → 1022 ≤ x → k + x ≡ 1074 → halfAway (ofFields binary64 s x t)
+    ≡ round binary64 s ((t + 2 ^ 52 + 2 ^ k) / 2 ^ (k + 1)) 1
 mid-half s zero t k l e = absurd (omega arith)
 mid-half s (suc x) t k l e =
     half-value (ofFields binary64 s (suc x) t) s ((2 ^ 52 + t) * 2 ^ x) (fields-mid s x t (omega arith))
@@ -68,9 +75,14 @@ mid-half s (suc x) t k l e =
 rescale : (v : Float) (s : Bool) (c : ℕ) → HasValue v s (c * 2 ^ 1074) (2 ^ 1074) → HasValue v s c 1
 rescale nan s c h = h
 rescale (inf t) s c h = h
-rescale (fin t m e) s c h = (h .0, mul-one (m * up e) ∙ eq-of-mul-eq-mul-right (2 ^ 1074) (pow-pos 1074) (m * up e) (c * down e) (h .1 ∙ mul-right-comm c (2 ^ 1074) (down e)))
+rescale (fin t m e) s c h = (
+  h .0,
+  mul-one (m * up e)
+      ∙ eq-of-mul-eq-mul-right (2 ^ 1074) (pow-pos 1074) (m * up e) (c * down e) (h .1 ∙ mul-right-comm c (2 ^ 1074) (down e)),
+)
 
-large : (s : Bool) (x t : ℕ) → 1075 ≤ suc x → suc x < 2047 → t < 2 ^ 52 → T (fits binary64 (ofFields binary64 s (suc x) t)) → halfAway (ofFields binary64 s (suc x) t) ≡ ofFields binary64 s (suc x) t
+large : (s : Bool) (x t : ℕ) → 1075 ≤ suc x → suc x < 2047 → t < 2 ^ 52 → T (fits binary64 (ofFields binary64 s (suc x) t))
+    → halfAway (ofFields binary64 s (suc x) t) ≡ ofFields binary64 s (suc x) t
 large s x t lo hi h f =
     let m = 2 ^ 52 + t in
     let c = m * 2 ^ (x - 1074) in
@@ -96,7 +108,8 @@ top-half s t = go (eqb t 0)
     go true = refl
     go false = refl
 
-pub large-half : (s : Bool) (x t : ℕ) → 1075 ≤ x → x ≤ 2047 → t < 2 ^ 52 → T (fits binary64 (ofFields binary64 s x t)) → halfAway (ofFields binary64 s x t) ≡ ofFields binary64 s x t
+pub large-half : (s : Bool) (x t : ℕ) → 1075 ≤ x → x ≤ 2047 → t < 2 ^ 52 → T (fits binary64 (ofFields binary64 s x t))
+    → halfAway (ofFields binary64 s x t) ≡ ofFields binary64 s x t
 large-half s zero t lo hi h f = absurd (omega arith)
 large-half s (suc x) t lo hi h f = go (eq-or-lt-of-le hi)
   where

@@ -1,7 +1,9 @@
--- A finite binary64 by its size in units: m * 2 ^ j with an m of at most 53 binary digits, and below 2 ^ 2098. The size tells two values that are not negative apart. Assumes nothing.
+-- A finite binary64 by its size in units: m * 2 ^ j with an m of at most 53 binary digits, and below 2 ^ 2098. The size tells two values that are not
+-- negative apart. Assumes nothing.
 use mathlib.Core.Path.{_≡_, sym, ap, _∙_, subst}
 use Prim.Native.Nat.{ℕ, zero, suc, _+_, _-_, _*_, _%_, _^_, _≤_, _<_}
-use native.Mathlib.Nat.{le-trans, le-of-eq, le-of-suc-le-suc, lt-of-le-of-lt, lt-of-not-le, not-le-of-lt, zero-mul, one-mul, mul-one, mul-assoc, mul-pos, mul-right-comm, mul-le-mul-right, mul-lt-mul-of-pos-right, lt-of-mul-lt-mul-right, eq-of-mul-eq-mul-right}
+use native.Mathlib.Nat.{le-trans, le-of-eq, le-of-suc-le-suc, lt-of-le-of-lt, lt-of-not-le, not-le-of-lt, zero-mul, one-mul, mul-one, mul-assoc}
+use native.Mathlib.Nat.{mul-pos, mul-right-comm, mul-le-mul-right, mul-lt-mul-of-pos-right, lt-of-mul-lt-mul-right, eq-of-mul-eq-mul-right}
 use native.Mathlib.Omega.{arith}
 use mathlib.Core.Bool.{Bool, false, _&&_}
 use lib.IntN.{ℤ, pos, negsuc}
@@ -23,7 +25,8 @@ fits-says : (s : Bool) (m : ℕ) (e : ℤ) → IsBinary64 (fin s m e) → Within
 unfolding fits
 fits-says s zero e t = record {
   digits = pow-pos 53;
-  deep = le-trans (le-of-eq (sym (one-mul (down e)))) (le-trans (mul-le-mul-right (down e) (up-pos e)) (le-trans (le-of-eq (eqb→eq (up e * down e) 1 t)) (pow-pos 1074)));
+  deep = le-trans (le-of-eq (sym (one-mul (down e))))
+      (le-trans (mul-le-mul-right (down e) (up-pos e)) (le-trans (le-of-eq (eqb→eq (up e * down e) 1 t)) (pow-pos 1074)));
   under = lt-of-le-of-lt (le-of-eq (zero-mul (up e))) (mul-pos (pow-pos 1024) (down-pos e));
 }
 fits-says s (suc m) e t =
@@ -40,7 +43,12 @@ fits-says s (suc m) e t =
 -- 2 ^ e is 2 ^ j units
 scale : (e : ℤ) → down e ≤ 2 ^ 1074 → (j : ℕ) × (up e * 2 ^ 1074 ≡ 2 ^ j * down e)
 scale (pos k) h = (k + 1074, sym (pow-add 2 k 1074) ∙ sym (mul-one (2 ^ (k + 1074))))
-scale (negsuc k) h = (1074 - suc k, one-mul (2 ^ 1074) ∙ ap (λ (x : ℕ). 2 ^ x) (sum k (le-of-suc-le-suc (lt-of-not-le (λ (g : suc 1074 ≤ suc k). not-le-of-lt (pow-lt g) h)))) ∙ pow-add 2 (1074 - suc k) (suc k))
+scale (negsuc k) h = (
+  1074 - suc k,
+  one-mul (2 ^ 1074)
+      ∙ ap (λ (x : ℕ). 2 ^ x) (sum k (le-of-suc-le-suc (lt-of-not-le (λ (g : suc 1074 ≤ suc k). not-le-of-lt (pow-lt g) h))))
+      ∙ pow-add 2 (1074 - suc k) (suc k),
+)
   where
     sum : (k : ℕ) → suc k ≤ 1074 → 1074 ≡ 1074 - suc k + suc k
     sum k l = omega arith
@@ -65,7 +73,8 @@ is-held (fin u m e) s a t h =
     let w = fits-says u m e t in
     let k = in-units u m e t in
     let under : m * up e * 2 ^ 1074 < 2 ^ 1024 * down e * 2 ^ 1074 = mul-lt-mul-of-pos-right (w .under) (pow-pos 1074) in
-    let top : m * up e * 2 ^ 1074 < 2 ^ 2098 * down e = subst (λ (x : ℕ). m * up e * 2 ^ 1074 < x) (mul-right-comm (2 ^ 1024) (down e) (2 ^ 1074)) under in
+    let top : m * up e * 2 ^ 1074 < 2 ^ 2098 * down e =
+    subst (λ (x : ℕ). m * up e * 2 ^ 1074 < x) (mul-right-comm (2 ^ 1024) (down e) (2 ^ 1074)) under in
     record {
       m = m;
       j = k .0;
@@ -76,4 +85,5 @@ is-held (fin u m e) s a t h =
 
 -- ---- two values that are not negative and have the same size are one
 pub same-units : (v w : Float) (a : ℕ) → IsBinary64 v → IsBinary64 w → HasUnits v false a → HasUnits w false a → v ≡ w
-same-units v w a f g h k = sym (ofBits-toBits binary64 v f) ∙ ap (ofBits binary64) (toBits-value v a h ∙ sym (toBits-value w a k)) ∙ ofBits-toBits binary64 w g
+same-units v w a f g h k = sym (ofBits-toBits binary64 v f) ∙ ap (ofBits binary64) (toBits-value v a h ∙ sym (toBits-value w a k))
+    ∙ ofBits-toBits binary64 w g

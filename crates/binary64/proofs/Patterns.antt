@@ -1,4 +1,5 @@
--- An `f64` and its bits: a value that the format holds is what its bits stand for, and which bits and which tests rule out a not-a-number. Assumes nothing.
+-- An `f64` and its bits: a value that the format holds is what its bits stand for, and which bits and which tests rule out a not-a-number. Assumes
+-- nothing.
 use mathlib.Core.Path.{_≡_, refl, sym, ap, _∙_, subst}
 use Prim.Native.Nat.{ℕ, _%_, _*_, _^_, _≤_, _<_}
 use native.Mathlib.Nat.{mod-le, le-trans}
@@ -20,7 +21,8 @@ no-nan n h = pattern-number n (le-trans (mod-le n (top binary64)) h)
 -- below the sign, bits above the infinity's
 pub pattern-nan : (n : ℕ) → 0x7ff0_0000_0000_0000 < n % 2 ^ 63 → ofBits binary64 n ≡ nan
 unfolding isNan
-pattern-nan n h = none (ofBits binary64 n) (subst T (nanBits-is binary64 n) (subst T (sym (nanBits-above binary64 n)) (lt→ltb (ones binary64 * hid binary64) (n % top binary64) h)))
+pattern-nan n h = none (ofBits binary64 n) (subst T (nanBits-is binary64 n)
+    (subst T (sym (nanBits-above binary64 n)) (lt→ltb (ones binary64 * hid binary64) (n % top binary64) h)))
   where
     none : (x : Float) → T (isNan x) → x ≡ nan
     none nan t = refl

@@ -1,4 +1,5 @@
--- The digits that a root keeps: n = m * 2 ^ p is w * 2 ^ h * 2 ^ h for a w of 105 or 106 binary digits, and the whole number nearest to √w has 53, or is 2 ^ 53. Assumes nothing.
+-- The digits that a root keeps: n = m * 2 ^ p is w * 2 ^ h * 2 ^ h for a w of 105 or 106 binary digits, and the whole number nearest to √w has 53, or
+-- is 2 ^ 53. Assumes nothing.
 use mathlib.Core.Path.{_≡_, sym, ap, _∙_, subst}
 use mathlib.Core.Logic.{inl, inr}
 use Prim.Native.Nat.{ℕ, suc, _+_, _-_, _*_, _/_, _^_, _≤_, _<_}
@@ -40,7 +41,8 @@ cut-of m p z s l u =
           lo = le-trans (pow-mono {i = 104} {j = d + j} (omega arith)) (le-trans (le-of-eq (pow-add 2 d j)) (mul-le-mul-right (2 ^ j) a));
           hi = lt-of-lt-of-le (shl-lt (suc d) j b) (pow-mono {i = suc d + j} {j = 106} (omega arith));
           few = omega arith;
-          is = ap (λ (x : ℕ). m * x) (ap (λ (x : ℕ). 2 ^ x) sum ∙ pow-add 2 j (h + h) ∙ ap (λ (x : ℕ). 2 ^ j * x) (pow-add 2 h h)) ∙ sym (mul-assoc m (2 ^ j) (2 ^ h * 2 ^ h));
+          is = ap (λ (x : ℕ). m * x) (ap (λ (x : ℕ). 2 ^ x) sum ∙ pow-add 2 j (h + h) ∙ ap (λ (x : ℕ). 2 ^ j * x) (pow-add 2 h h))
+              ∙ sym (mul-assoc m (2 ^ j) (2 ^ h * 2 ^ h));
         }
 
 -- ---- the whole number nearest to √w

@@ -1,7 +1,8 @@
 -- `rootUnits` at w * 2 ^ h * 2 ^ h, for a w of 105 or 106 binary digits, is the whole number nearest to √w, times 2 ^ h. Assumes nothing.
 use mathlib.Core.Path.{_≡_, refl, sym, ap, _∙_, subst}
 use Prim.Native.Nat.{ℕ, suc, _+_, _-_, _*_, _/_, _^_, _≤_, _<_, compare, Ordering, Ordering·lt, Ordering·eq, Ordering·gt}
-use native.Mathlib.Nat.{le-trans, le-of-eq, le-antisymm, lt-of-lt-of-le, lt-of-not-le, not-le-of-lt, mul-pos, mul-le-mul-right, lt-of-mul-lt-mul-right, eq-of-mul-eq-mul-right, mul-div-cancel}
+use native.Mathlib.Nat.{le-trans, le-of-eq, le-antisymm, lt-of-lt-of-le, lt-of-not-le, not-le-of-lt, mul-pos, mul-le-mul-right}
+use native.Mathlib.Nat.{lt-of-mul-lt-mul-right, eq-of-mul-eq-mul-right, mul-div-cancel}
 use native.Mathlib.Numerals.{add-one}
 use native.Mathlib.Omega.{arith}
 use mathlib.Core.Bool.{false, not}
@@ -36,7 +37,8 @@ pub size-is : (n j : ℕ) → 2 ^ j ≤ n → n < 2 ^ suc j → size n ≡ suc j
 size-is n j lo hi = le-antisymm (size-le n (suc j) hi) (size-gt n j lo)
 
 -- ---- the choice between q and the next, with u for 2 ^ k * 2 ^ k
-pick : (w q r u : ℕ) (o : Ordering) → 0 < u → 0 < q → Floored w q → Nearest w r → Cmp o (4 * (w * u)) ((2 * q + 1) * (2 * q + 1) * u) → nearest q o ≡ r
+pick : (w q r u : ℕ) (o : Ordering) → 0 < u → 0 < q → Floored w q → Nearest w r
+    → Cmp o (4 * (w * u)) ((2 * q + 1) * (2 * q + 1) * u) → nearest q o ≡ r
 pick w q r u o p z f n = go o
   where
     go : (o : Ordering) → Cmp o (4 * (w * u)) ((2 * q + 1) * (2 * q + 1) * u) → nearest q o ≡ r
@@ -57,7 +59,8 @@ dropped : (w h : ℕ) → 2 ^ 104 ≤ w → w < 2 ^ 106 → (size (w * (2 ^ h * 
 dropped w h lo hi =
     let e : 2 ^ h * 2 ^ h ≡ 2 ^ (h + h) = sym (pow-add 2 h h) in
     let n = w * (2 ^ h * 2 ^ h) in
-    let a : 2 ^ (104 + (h + h)) ≤ n = le-trans (le-of-eq (pow-add 2 104 (h + h) ∙ ap (λ (x : ℕ). 2 ^ 104 * x) (sym e))) (mul-le-mul-right (2 ^ h * 2 ^ h) lo) in
+    let a : 2 ^ (104 + (h + h)) ≤ n = le-trans (le-of-eq (pow-add 2 104 (h + h) ∙ ap (λ (x : ℕ). 2 ^ 104 * x) (sym e)))
+    (mul-le-mul-right (2 ^ h * 2 ^ h) lo) in
     let b : n < 2 ^ (106 + (h + h)) = subst (λ (x : ℕ). w * x < 2 ^ (106 + (h + h))) (sym e) (shl-lt 106 (h + h) hi) in
     count (size n) h (size-gt n (104 + (h + h)) a) (size-le n (106 + (h + h)) b)
   where
@@ -76,4 +79,5 @@ root-law w h r lo hi near =
     root-is (w * u)
     ∙ ap (λ (k : ℕ). from (w * u) k (floorRoot (w * u / (2 ^ k * 2 ^ k)))) (dropped w h lo hi)
     ∙ ap (λ (x : ℕ). from (w * u) h (floorRoot x)) (mul-div-cancel w p)
-    ∙ ap (λ (x : ℕ). units binary64 false x h) (pick w q r u (compare (4 * (w * u)) ((2 * q + 1) * (2 * q + 1) * u)) p (positive w q lo (f .1)) f near (cmp (4 * (w * u)) ((2 * q + 1) * (2 * q + 1) * u)))
+    ∙ ap (λ (x : ℕ). units binary64 false x h) (pick w q r u (compare (4 * (w * u)) ((2 * q + 1) * (2 * q + 1) * u)) p (positive w q lo (f .1)) f near
+    (cmp (4 * (w * u)) ((2 * q + 1) * (2 * q + 1) * u)))

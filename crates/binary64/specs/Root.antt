@@ -1,5 +1,5 @@
--- Document 01, "Square root by IEEE 754: the binary64 nearest the exact root, ties to even, -0 gives -0, negatives give not-a-number", worked out over whole numbers.
--- Definitions only; Meaning.antt says what they come to.
+-- Document 01, "Square root by IEEE 754: the binary64 nearest the exact root, ties to even, -0 gives -0, negatives give
+-- not-a-number", worked out over whole numbers. Definitions only; Meaning.antt says what they come to.
 use Prim.Native.Nat.{ℕ, zero, suc, _+_, _-_, _*_, _/_, _^_, _≤_, _<_, compare}
 use mathlib.Core.Bool.{false, cond}
 use mathlib.Core.List.{List}
@@ -17,9 +17,10 @@ unfoldable pub floorRoot : ℕ → ℕ
 unfolding digits size
 floorRoot n = digits (size n) n
 
--- The binary64 nearest to √n of the format's smallest values, a tie to the even one: `round` of lib.Ieee, with √n for its fraction.
--- √n has half as many binary digits before its point as n has, rounded up. The format keeps `prec` of them and drops k, so q is the whole part of √n / 2 ^ k.
--- Whether q or q + 1 is nearer is whether √n / 2 ^ k is below or above q + 1 / 2. Both are doubled and squared, so that no root is left.
+-- The binary64 nearest to √n of the format's smallest values, a tie to the even one: `round` of lib.Ieee, with √n for
+-- its fraction. √n has half as many binary digits before its point as n has, rounded up. The format keeps `prec` of
+-- them and drops k, so q is the whole part of √n / 2 ^ k. Whether q or q + 1 is nearer is whether √n / 2 ^ k is below
+-- or above q + 1 / 2. Both are doubled and squared, so that no root is left.
 unfoldable pub rootUnits : ℕ → Float
 unfolding floorRoot size units
 rootUnits n =
@@ -28,7 +29,8 @@ rootUnits n =
     let q = floorRoot (n / u) in
     units binary64 false (nearest q (compare (4 * n) ((2 * q + 1) * (2 * q + 1) * u))) k
 
--- x is a whole number of the format's smallest values, which are 2 ^ -low. So n = x * 2 ^ (2 * low) is a whole number too, and √x is √n of those values.
+-- x is a whole number of the format's smallest values, which are 2 ^ -low. So n = x * 2 ^ (2 * low) is a whole number
+-- too, and √x is √n of those values.
 unfoldable pub root : Float → Float
 unfolding rootUnits
 root nan = nan
@@ -40,7 +42,7 @@ unfoldable pub rootsTo : List Float → List Float → ℕ → List Float
 rootsTo d out zero = out
 rootsTo d out (suc k) = set (rootsTo d out k) k (root (getD d k nan))
 
--- what the inner functions of src/square_root.rt promise each other: r is the whole number nearest to the root of w, (r - 1/2) ^ 2 < w < (r + 1/2) ^ 2, multiplied out over
--- whole numbers
+-- what the inner functions of src/square_root.rt promise each other: r is the whole number nearest to the root of w, (r
+-- - 1/2) ^ 2 < w < (r + 1/2) ^ 2, multiplied out over whole numbers
 abbrev pub Nearest : ℕ → ℕ → Type 0
 Nearest w r = (r * r < w + r) × (w ≤ r * r + r)

@@ -1,5 +1,5 @@
--- Document 01, "Rounding half away from zero, to an f64; infinities and not-a-numbers pass through", worked out over whole numbers.
--- Definitions only; Meaning.antt says what they come to.
+-- Document 01, "Rounding half away from zero, to an f64; infinities and not-a-numbers pass through", worked out over
+-- whole numbers. Definitions only; Meaning.antt says what they come to.
 use Prim.Native.Nat.{_+_, _*_, _/_}
 use lib.Ieee.{Float, nan, inf, fin, binary64, up, down, round}
 

@@ -1,4 +1,5 @@
--- The steps of binary64 that every definition of the port is made of: the four operators, constants by their bits or digits, and three small functions. Definitions only.
+-- The steps of binary64 that every definition of the port is made of: the four operators, constants by their bits or
+-- digits, and three small functions. Definitions only.
 use Prim.Native.Nat.{ℕ, _^_}
 use mathlib.Core.Bool.{Bool, true, false, cond}
 use lib.Ieee.{Float, nan, inf, fin, binary64, round, add, sub, mul, div, lt, ofBits}

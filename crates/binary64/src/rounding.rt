@@ -15,7 +15,8 @@ const WHOLE: u64 = 0x4330_0000_0000_0000;
 // The whole number nearest to the magnitude with these bits, which is below 2^52: a half goes up.
 fn whole(rest: u64) -> u64
     requires { ⌜ rest < 0x4330_0000_0000_0000 ⌝ }
-    ensures { λ q. ⌜ (q ≤ 2 ^ 53) × ((s : Bool) → halfAway (ofFields binary64 s (rest / 2 ^ 52) (rest % 2 ^ 52)) ≡ Ieee.round binary64 s q 1) ⌝ }
+    ensures { λ q. ⌜ (q ≤ 2 ^ 53) × ((s : Bool) → halfAway (ofFields binary64 s (rest / 2 ^ 52) (rest % 2 ^ 52))
+        ≡ Ieee.round binary64 s q 1) ⌝ }
 {
     let e = rest >> 52;
     if e < 1022 {

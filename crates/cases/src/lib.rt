@@ -1,4 +1,5 @@
-// Cases on standard input, one after the other: reading them, and counting those that differ. What the programs share that compare recorded cases.
+// Cases on standard input, one after the other: reading them, and counting those that differ. What the programs share
+// that compare recorded cases.
 ghost use Prim.Native.Nat.{_+_, _<_, _≤_};
 ghost use mathlib.Core.Bool.{cond};
 ghost use mathlib.Core.Path.{_≡_};
@@ -16,10 +17,12 @@ pub struct Tally {
 }
 
 impl Tally {
-    // One case more, which agrees or differs. The second `ensures` follows from the first, and is there for the next call.
+    // One case more, which agrees or differs. The second `ensures` follows from the first, and is there for the next
+    // call.
     pub fn with(self, agrees: bool) -> Tally
         requires { ⌜ (self .compared < 1000000) × (self .differ ≤ self .compared) ⌝ }
-        ensures { λ r. ⌜ (r .compared ≡ self .compared + 1) × (r .differ ≡ cond agrees (self .differ) (self .differ + 1)) ⌝ }
+        ensures { λ r. ⌜ (r .compared ≡ self .compared + 1)
+            × (r .differ ≡ cond agrees (self .differ) (self .differ + 1)) ⌝ }
         ensures { λ r. ⌜ r .differ ≤ r .compared ⌝ }
     {
         let compared = self.compared + 1;
@@ -34,8 +37,8 @@ impl Tally {
     }
 }
 
-// Reads the next n bytes to the start of `bytes`, and says how many came: none where `bytes` has no room for n. Of what comes, and how much,
-// nothing is promised, since `io::read_full` says nothing of it.
+// Reads the next n bytes to the start of `bytes`, and says how many came: none where `bytes` has no room for n. Of what
+// comes, and how much, nothing is promised, since `io::read_full` says nothing of it.
 pub fn read(bytes: &mut [u8], n: usize) -> usize
     ensures { λ r. ⌜ Counts r (now (bytes .exit)) ⌝ }
     ensures { λ r. ⌜ (r ≤ n) × (drop n (now (bytes .exit)) ≡ drop n (now (bytes .entry))) ⌝ }

@@ -24,7 +24,8 @@ module _ (a : Altitude) (g : Geodetic) (t : Stepped) where
   unfolding rejected
   stays s e h = e ∙ ap (λ (q : Stepped). placeOf a (q .state .params)) (sym h)
 
-  pub moves : (lambda : Float) (x p : List Float) (next : Equations) → g ≡ placeOf a p → t ≡ accepted lambda x p next → g ≡ placeOf a (t .state .params)
+  pub moves : (lambda : Float) (x p : List Float) (next : Equations) → g ≡ placeOf a p → t ≡ accepted lambda x p next → g
+      ≡ placeOf a (t .state .params)
   unfolding accepted
   moves lambda x p next e h = e ∙ ap (λ (q : Stepped). placeOf a (q .state .params)) (sym h)
 

@@ -62,18 +62,23 @@ more s x limit f (inl c) h = go (square-clear binary64 x)
         ])
 
 -- the altitude's row adds a square, or there is none
-pushed : (altitude : Altitude) (g : Geodetic) (w : Rows) (limit : Float) → w .count < length (w .r) → T (lt limit (costTo (w .r) (w .count))) → better (costTo (pushAltitude altitude g w .r) (pushAltitude altitude g w .count)) limit ≡ false
+pushed : (altitude : Altitude) (g : Geodetic) (w : Rows) (limit : Float) → w .count < length (w .r) → T (lt limit (costTo (w .r) (w .count)))
+    → better (costTo (pushAltitude altitude g w .r) (pushAltitude altitude g w .count)) limit ≡ false
 pushed None g w limit l h = alone (costTo (w .r) (w .count)) limit h
-pushed (Barometric metres) g w limit l h = rw (← cost-more (w .r) (w .count) _ (costTo (w .r) (w .count)) l refl) (more _ _ limit (cost-fits (w .r) (w .count)) (cost-clear (w .r) (w .count)) h)
-pushed (Gnss metres) g w limit l h = rw (← cost-more (w .r) (w .count) _ (costTo (w .r) (w .count)) l refl) (more _ _ limit (cost-fits (w .r) (w .count)) (cost-clear (w .r) (w .count)) h)
+pushed (Barometric metres) g w limit l h = rw (← cost-more (w .r) (w .count) _ (costTo (w .r) (w .count)) l refl)
+    (more _ _ limit (cost-fits (w .r) (w .count)) (cost-clear (w .r) (w .count)) h)
+pushed (Gnss metres) g w limit l h = rw (← cost-more (w .r) (w .count) _ (costTo (w .r) (w .count)) l refl)
+    (more _ _ limit (cost-fits (w .r) (w .count)) (cost-clear (w .r) (w .count)) h)
 
 -- a step whose receptions alone cost more is not taken
-pub above : (P : Chosen) (p : List Float) (r : List Float) (part limit : Float) → P .k ≤ 32 → r ≡ whitenedColumn P p 0 → part ≡ costTo r (P .k) → lt limit part ≡ true → better (evaluated P p .cost) limit ≡ false
+pub above : (P : Chosen) (p : List Float) (r : List Float) (part limit : Float) → P .k ≤ 32 → r ≡ whitenedColumn P p 0 → part ≡ costTo r (P .k)
+    → lt limit part ≡ true → better (evaluated P p .cost) limit ≡ false
 unfolding evaluated whitened
 above P p r part limit k e f h =
     let w = received P p in
     let long : length (w .r) ≡ 33 = room-left (P .whitener) (raw (P .sites) (P .z) p 0) blank (P .k) (P .k) in
-    let high : T (lt limit (costTo (w .r) (P .k))) = subst T (sym (ap (λ (y : List Float). lt limit (costTo y (P .k))) (sym e) ∙ ap (λ (v : Float). lt limit v) (sym f) ∙ h)) tt in
+    let high : T (lt limit (costTo (w .r) (P .k))) =
+    subst T (sym (ap (λ (y : List Float). lt limit (costTo y (P .k))) (sym e) ∙ ap (λ (v : Float). lt limit v) (sym f) ∙ h)) tt in
     ap (λ (v : Float). better v limit) (cost-is (whitened P p) (whitened P p .count)) ∙ pushed (P .altitude) _ w limit (omega (arith, long)) high
 
 -- ---- what a step gives that is tried

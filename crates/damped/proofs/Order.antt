@@ -1,4 +1,5 @@
--- The order of floats: `lt` is asymmetric and splits at every third number, and of two numbers `le` is `lt` the other way round, turned. Assumes nothing.
+-- The order of floats: `lt` is asymmetric and splits at every third number, and of two numbers `le` is `lt` the other way round, turned. Assumes
+-- nothing.
 use mathlib.Core.Path.{_≡_}
 use mathlib.Core.Logic.{_⊎_, inl, inr}
 use mathlib.Core.Bool.{Bool, true, false, not, _&&_, _||_}
@@ -15,7 +16,8 @@ use Rattle.sets.proofs.Tests.{either, and-l, and-r, and-both, or-l, or-r, or-ca
 split-up : (x y z p q r : ℕ) → 0 < q → x * r < z * p → (x * q < y * p) ⊎ (y * r < z * q)
 split-up x y z p q r Q h = go (either (ltb (x * q) (y * p))) (either (ltb (y * r) (z * q)))
   where
-    go : T (ltb (x * q) (y * p)) ⊎ T (not (ltb (x * q) (y * p))) → T (ltb (y * r) (z * q)) ⊎ T (not (ltb (y * r) (z * q))) → (x * q < y * p) ⊎ (y * r < z * q)
+    go : T (ltb (x * q) (y * p)) ⊎ T (not (ltb (x * q) (y * p))) → T (ltb (y * r) (z * q)) ⊎ T (not (ltb (y * r) (z * q)))
+        → (x * q < y * p) ⊎ (y * r < z * q)
     go (inl t) u = inl (ltb→lt (x * q) (y * p) t)
     go (inr t) (inl u) = inr (ltb→lt (y * r) (z * q) u)
     go (inr t) (inr u) = absurd (omega (arith, through z y x r q p Q (nltb→le (y * r) (z * q) u) (nltb→le (x * q) (y * p) t)))
@@ -77,7 +79,8 @@ lt-split (inf false) (fin u m e) (inf t) N h = absurd h
 lt-split (inf false) (fin u m e) (fin t n d) N h = absurd h
 lt-split (fin s m e) (fin u l c) nan N h = absurd h
 lt-split (fin s m e) (fin u l c) (inf t) N h = inr h
-lt-split (fin s m e) (fin u l c) (fin t n d) N h = below-split (m * up e) (l * up c) (n * up d) (down e) (down c) (down d) (down-pos e) (down-pos c) (down-pos d) s u t h
+lt-split (fin s m e) (fin u l c) (fin t n d) N h =
+    below-split (m * up e) (l * up c) (n * up d) (down e) (down c) (down d) (down-pos e) (down-pos c) (down-pos d) s u t h
 
 -- ---- `lt` is asymmetric, and transitive
 below-asym : (s t : Bool) (a b : ℕ) → T (below s a t b) → T (below t b s a) → ⊥

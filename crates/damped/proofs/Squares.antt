@@ -82,7 +82,8 @@ cost-fits r (suc i) = add-fits binary64 (costTo r i) (nth r i ⊗ nth r i)
 
 -- u / de, which is a / L, is no more than (u * dd + b) / (de * dd)
 no-less : (a u de dd L b : ℕ) → u * L ≡ a * de → a * (de * dd) ≤ (u * dd + b) * L
-no-less a u de dd L b e = le-trans (le-of-eq (sym (mul-assoc a de dd) ∙ ap (λ (x : ℕ). x * dd) (sym e) ∙ mul-right-comm u L dd)) (mul-le-mul-right L (le-add-right (u * dd) b))
+no-less a u de dd L b e = le-trans (le-of-eq (sym (mul-assoc a de dd) ∙ ap (λ (x : ℕ). x * dd) (sym e) ∙ mul-right-comm u L dd))
+    (mul-le-mul-right L (le-add-right (u * dd) b))
 
 -- a sum is no less than what it adds to
 pub grows : (x y : Float) → T (fits binary64 x) → T (clear x) → T (clear y) → isFinite (add binary64 x y) ≡ true → T (le x (add binary64 x y))
@@ -95,7 +96,10 @@ grows (fin false m e) (fin false n d) t h k g =
     let a = m * 2 ^ j .0 in
     let x = fin false m e in
     let held = is-held x false a t (refl, j .1) in
-    let exact = round-exact binary64 false a (2 ^ 1074) (held .m) (held .j) (pow-pos 1074) (held .digits) (subst (λ (z : ℕ). z < 2 ^ 2098) (held .is) (held .below)) (ap (λ (z : ℕ). z * 2 ^ 1074) (held .is)) in
-    let same : x ≡ round binary64 false a (2 ^ 1074) = same-units x (round binary64 false a (2 ^ 1074)) a t (round-fits binary64 false a (2 ^ 1074)) (refl, j .1) exact in
+    let exact = round-exact binary64 false a (2 ^ 1074) (held .m) (held .j) (pow-pos 1074) (held .digits)
+    (subst (λ (z : ℕ). z < 2 ^ 2098) (held .is) (held .below)) (ap (λ (z : ℕ). z * 2 ^ 1074) (held .is)) in
+    let same : x ≡ round binary64 false a (2 ^ 1074) =
+    same-units x (round binary64 false a (2 ^ 1074)) a t (round-fits binary64 false a (2 ^ 1074)) (refl, j .1) exact in
     subst (λ (v : Float). T (le v (round binary64 false (m * up e * down d + n * up d * down e) (down e * down d)))) (sym same)
-    (round-mono binary64 a (2 ^ 1074) (m * up e * down d + n * up d * down e) (down e * down d) (pow-pos 1074) (mul-pos (down-pos e) (down-pos d)) (no-less a (m * up e) (down e) (down d) (2 ^ 1074) (n * up d * down e) (j .1)))
+    (round-mono binary64 a (2 ^ 1074) (m * up e * down d + n * up d * down e) (down e * down d) (pow-pos 1074) (mul-pos (down-pos e) (down-pos d))
+    (no-less a (m * up e) (down e) (down d) (2 ^ 1074) (n * up d * down e) (j .1)))

@@ -16,7 +16,8 @@ use Rattle.damped.specs.Damped.{step, run, after, plain, levenbergMarqua
 use Rattle.damped.proofs.Constants.{lambda-bits}
 
 -- a turn that ends in the verdict v
-pub turn : (P : Chosen) (n : ℕ) (s : Lm) (t : Stepped) (out : Fit) (v : Verdict) → n < 50 → run P (50 - n) s ≡ out → t ≡ step P s → t .verdict ≡ v → after v (t .state) (run P (50 - (n + 1)) (t .state)) ≡ out
+pub turn : (P : Chosen) (n : ℕ) (s : Lm) (t : Stepped) (out : Fit) (v : Verdict) → n < 50 → run P (50 - n) s ≡ out → t ≡ step P s → t .verdict ≡ v
+    → after v (t .state) (run P (50 - (n + 1)) (t .state)) ≡ out
 unfolding run
 turn P n s t out v h r e w = let d : 50 - n ≡ suc (50 - (n + 1)) = omega arith in rw (← w, e) (rw d at r)
 
@@ -26,6 +27,12 @@ unfolding run
 ended P n s out h r = rw h at r
 
 -- the run from a start, with the bits of `LM_LAMBDA`
-pub begun : (P : Chosen) (p : List Float) (e : Equations) → e ≡ evaluated P p → run P 50 (record { params = p; information = e .information; gradient = e .gradient; cost = e .cost; lambda = # 0x3F50624DD2F1A9FC }) ≡ levenbergMarquardt P p
+pub begun : (P : Chosen) (p : List Float) (e : Equations) → e ≡ evaluated P p → run P 50 (record {
+  params = p;
+  information = e .information;
+  gradient = e .gradient;
+  cost = e .cost;
+  lambda = # 0x3F50624DD2F1A9FC;
+}) ≡ levenbergMarquardt P p
 unfolding levenbergMarquardt
 begun P p e h = rw (lambda-bits, h)

@@ -23,7 +23,8 @@ use Rattle.damped.specs.declared.Fit.{Fit}
 unfoldable pub dampedTo : List Float → Float → ℕ → List Float
 dampedTo information lambda zero = information
 dampedTo information lambda (suc i) =
-    let m = dampedTo information lambda i in put m 4 i i (at m 4 i i ⊕ lambda ⊗ maxOf (at information 4 i i) (decimal 1 12))
+    let m = dampedTo information lambda i in
+    put m 4 i i (at m 4 i i ⊕ lambda ⊗ maxOf (at information 4 i i) (decimal 1 12))
 
 -- `m.cholesky()?.solve(&gradient.map(|value| -value))`: where the Cholesky fails there is none, and zeros stand for it
 abbrev pub solved : Factor → List Float → Solved
@@ -49,22 +50,36 @@ small x = below (nth x 0) && (below (nth x 1) && (below (nth x 2) && below (nth 
 unfoldable pub better : Float → Float → Bool
 better next cost = isFinite next && le next cost
 
--- what a step x gives that is taken: the candidate, its normal equations `next`, and `(lambda / 10.0).max(1e-12)`; a small step ends the fit
+-- what a step x gives that is taken: the candidate, its normal equations `next`, and `(lambda / 10.0).max(1e-12)`; a
+-- small step ends the fit
 unfoldable pub accepted : Float → List Float → List Float → Equations → Stepped
 accepted lambda x candidate next =
-    let state : Lm = record { params = candidate; information = next .information; gradient = next .gradient; cost = next .cost; lambda = maxOf (lambda ⊘ decimal 10 0) (decimal 1 12) } in
+    let state : Lm = record {
+      params = candidate;
+      information = next .information;
+      gradient = next .gradient;
+      cost = next .cost;
+      lambda = maxOf (lambda ⊘ decimal 10 0) (decimal 1 12);
+    } in
     record { state = state; verdict = cond (small x) Converged Accepted }
 
 -- what a step gives that is not taken: the state with `lambda *= 10.0`; `if lambda > 1e12 { break; }`
 unfoldable pub rejected : Lm → Stepped
 rejected s =
     let lambda = s .lambda ⊗ decimal 10 0 in
-    let state : Lm = record { params = s .params; information = s .information; gradient = s .gradient; cost = s .cost; lambda = lambda } in
+    let state : Lm = record {
+      params = s .params;
+      information = s .information;
+      gradient = s .gradient;
+      cost = s .cost;
+      lambda = lambda;
+    } in
     record { state = state; verdict = cond (lt (decimal 1_000_000_000_000 0) lambda) Stopped Rejected }
 
 -- what a step x gives that is tried: the candidate is taken or not, by its cost
 abbrev pub tried : Chosen → Lm → List Float → List Float → Stepped
-tried P s x candidate = let next = evaluated P candidate in cond (better (next .cost) (s .cost)) (accepted (s .lambda) x candidate next) (rejected s)
+tried P s x candidate = let next = evaluated P candidate in
+    cond (better (next .cost) (s .cost)) (accepted (s .lambda) x candidate next) (rejected s)
 
 -- a turn of the loop over the chosen receptions P: where the damped Cholesky fails the step fails
 unfoldable pub step : Chosen → Lm → Stepped
@@ -98,7 +113,13 @@ run P (suc n) s = let t = step P s in after (t .verdict) (t .state) (run P n (t 
 
 -- the state at a start, where the normal equations are e, with the initial damping `LM_LAMBDA`, 1e-3
 abbrev pub started : List Float → Equations → Lm
-started start e = record { params = start; information = e .information; gradient = e .gradient; cost = e .cost; lambda = decimal 1 3 }
+started start e = record {
+  params = start;
+  information = e .information;
+  gradient = e .gradient;
+  cost = e .cost;
+  lambda = decimal 1 3;
+}
 
 -- `levenberg_marquardt`, of at most `LM_ITERATIONS` = 50 steps
 unfoldable pub levenbergMarquardt : Chosen → List Float → Fit

@@ -81,7 +81,8 @@ fn run(
     altitude: Altitude,
 ) -> Placed
     requires { ⌜ (k ≤ 32) × (at ≡ placeOf altitude (start .params)) ⌝ }
-    ensures { λ r. ⌜ r .fit ≡ run (chosen k (now (sites .entry)) (now (z .entry)) (now (l .entry)) altitude) 50 start ⌝ }
+    ensures { λ r. ⌜ r .fit ≡ run (chosen k (now (sites .entry)) (now (z .entry)) (now (l .entry))
+        altitude) 50 start ⌝ }
     ensures { λ r. ⌜ ((r .fit .ok ≡ true) → r .place ≡ placeOf altitude (r .fit .params)) ⌝ }
 {
     let mut state = start;
@@ -150,7 +151,8 @@ pub fn levenberg_marquardt(
     start: [f64; 4],
 ) -> Placed
     requires { ⌜ k ≤ 32 ⌝ }
-    ensures { λ r. ⌜ r ≡ placed (levenbergMarquardt (chosen k (now (sites .entry)) (now (z .entry)) (now (l .entry)) altitude) start) ⌝ }
+    ensures { λ r. ⌜ r ≡ placed (levenbergMarquardt
+        (chosen k (now (sites .entry)) (now (z .entry)) (now (l .entry)) altitude) start) ⌝ }
 {
     let at = whitening::place(altitude, start);
     let first = whitening::evaluated(sites, z, k, l, altitude, start, at);

@@ -200,7 +200,8 @@ fn tried(
     altitude: Altitude,
 ) -> SteppedAt
     requires { ⌜ (k ≤ 32) × (place ≡ placeOf altitude (state .params)) ⌝ }
-    ensures { λ r. ⌜ r .stepped ≡ tried (chosen k (now (sites .entry)) (now (z .entry)) (now (l .entry)) altitude) state x candidate ⌝ }
+    ensures { λ r. ⌜ r .stepped ≡ tried (chosen k (now (sites .entry)) (now (z .entry)) (now (l .entry)) altitude)
+        state x candidate ⌝ }
     ensures { λ r. ⌜ r .place ≡ placeOf altitude (r .stepped .state .params) ⌝ }
 {
     let cost = state.cost;
@@ -239,7 +240,8 @@ impl Lm {
         altitude: Altitude,
     ) -> SteppedAt
         requires { ⌜ (k ≤ 32) × (place ≡ placeOf altitude (self .params)) ⌝ }
-        ensures { λ r. ⌜ r .stepped ≡ step (chosen k (now (sites .entry)) (now (z .entry)) (now (l .entry)) altitude) self ⌝ }
+        ensures { λ r. ⌜ r .stepped ≡ step
+            (chosen k (now (sites .entry)) (now (z .entry)) (now (l .entry)) altitude) self ⌝ }
         ensures { λ r. ⌜ r .place ≡ placeOf altitude (r .stepped .state .params) ⌝ }
     {
         let params = self.params;

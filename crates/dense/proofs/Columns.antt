@@ -27,7 +27,8 @@ module _ (a : List Float) (n : ℕ) (z : List Float) where
   stays l j zero e = rw add-zero e
   stays l j (suc d) e = rw (add-suc, stays l j d e)
 
-  pub stopped : (m j : ℕ) (l : List Float) → suc j ≤ m → choleskyTo a n z j ≡ found l → lt nought (pivot a n j l) ≡ false → choleskyTo a n z m ≡ refused l
+  pub stopped : (m j : ℕ) (l : List Float) → suc j ≤ m → choleskyTo a n z j ≡ found l → lt nought (pivot a n j l) ≡ false
+      → choleskyTo a n z m ≡ refused l
   stopped m j l h e g =
       let k : suc j + (m - suc j) ≡ m = omega arith in
       rw k at (stays l (suc j) (m - suc j) (stop j l e g))

@@ -1,4 +1,5 @@
--- Entries of vectors and of square matrices, the running sums over them, and `Matrix::mul_vec` of linalg.rs, for every size n. A matrix is a list, row by row. Definitions only.
+-- Entries of vectors and of square matrices, the running sums over them, and `Matrix::mul_vec` of linalg.rs, for every
+-- size n. A matrix is a list, row by row. Definitions only.
 use mathlib.Core.List.{List}
 use Prim.Native.Nat.{ℕ, zero, suc, _+_, _*_}
 use lib.ListN.{getD, set}
@@ -22,7 +23,8 @@ unfoldable pub minusDots : (ℕ → Float) → (ℕ → Float) → ℕ → Float
 minusDots a b zero value = value
 minusDots a b (suc k) value = minusDots a b k value ⊖ a k ⊗ b k
 
--- 0 + a 0 * b 0 + a 1 * b 1 + .. + a (m - 1) * b (m - 1), from the left: `sum` of the products. Document 01: "Sums start from plus zero".
+-- 0 + a 0 * b 0 + a 1 * b 1 + .. + a (m - 1) * b (m - 1), from the left: `sum` of the products. Document 01: "Sums
+-- start from plus zero".
 unfoldable pub dots : (ℕ → Float) → (ℕ → Float) → ℕ → Float
 dots a b zero = nought
 dots a b (suc k) = dots a b k ⊕ a k ⊗ b k

@@ -18,7 +18,8 @@ abbrev pub verdict : Bool → List Float → Factor
 verdict true l = found l
 verdict false l = refused l
 
--- `for i in j + 1..n`, after m turns: column j below the diagonal. Row i's entry is (A i j - L i 0 * L j 0 - .. - L i (j - 1) * L j (j - 1)) / root
+-- `for i in j + 1..n`, after m turns: column j below the diagonal. Row i's entry is (A i j - L i 0 * L j 0 - .. - L i
+-- (j - 1) * L j (j - 1)) / root
 unfoldable pub columnTo : List Float → ℕ → ℕ → Float → List Float → ℕ → List Float
 columnTo a n j root l zero = l
 columnTo a n j root l (suc m) =
@@ -30,7 +31,8 @@ columnTo a n j root l (suc m) =
 abbrev pub pivot : List Float → ℕ → ℕ → List Float → Float
 pivot a n j l = minusDots (at l n j) (at l n j) j (at a n j j)
 
--- column j, unless a pivot is refused already. Document 01: "A pivot that is not a number, or not above 0, is refused." A comparison with a not-a-number is false.
+-- column j, unless a pivot is refused already. Document 01: "A pivot that is not a number, or not above 0, is refused."
+-- A comparison with a not-a-number is false.
 unfoldable pub column : List Float → ℕ → ℕ → Factor → Factor
 column a n j (found l) =
     let r = root (pivot a n j l) in

@@ -12,12 +12,15 @@ unfoldable pub putColumnTo : List Float → ℕ → ℕ → List Float → ℕ �
 putColumnTo m n column x zero = m
 putColumnTo m n column x (suc row) = put (putColumnTo m n column x row) n row column (nth x row)
 
--- `for column in 0..n`, after `column` turns: the solutions of the unit vectors, n zeros but 1 at `column`, in the columns of m
+-- `for column in 0..n`, after `column` turns: the solutions of the unit vectors, n zeros but 1 at `column`, in the
+-- columns of m
 unfoldable pub columnsTo : List Float → ℕ → List Float → ℕ → List Float
 columnsTo l n m zero = m
-columnsTo l n m (suc column) = putColumnTo (columnsTo l n m column) n column (solve l n (set (replicate n nought) column one)) n
+columnsTo l n m (suc column) = putColumnTo (columnsTo l n m column) n column
+    (solve l n (set (replicate n nought) column one)) n
 
--- "Symmetrise exactly": `for column in row + 1..n`, after k turns. The entry of row and column and its mirror both become half their sum.
+-- "Symmetrise exactly": `for column in row + 1..n`, after k turns. The entry of row and column and its mirror both
+-- become half their sum.
 unfoldable pub symmetriseRowTo : ℕ → ℕ → List Float → ℕ → List Float
 symmetriseRowTo n row m zero = m
 symmetriseRowTo n row m (suc k) =

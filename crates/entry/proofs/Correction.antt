@@ -1,5 +1,6 @@
--- With a correction of 0 every reply is document 01's; whatever the correction, a fix shows the metres as given: the statements of specs/Correction.antt.
--- Metres that pass are a number, so their bits come back from the float (`toBits-ofBits`); they are the last row of the record (`last-read`). Assumes nothing.
+-- With a correction of 0 every reply is document 01's; whatever the correction, a fix shows the metres as given: the statements of
+-- specs/Correction.antt. Metres that pass are a number, so their bits come back from the float (`toBits-ofBits`); they are the last row of the record
+-- (`last-read`). Assumes nothing.
 use Prim.Native.Nat.{ℕ, _<_, _^_}
 use mathlib.Core.Path.{_≡_, refl, ap, subst, _∙_}
 use mathlib.Core.Bool.{Bool, true, false, cond}
@@ -67,7 +68,8 @@ rows n altitude f =
     ∷ from 162 (u8 (kind altitude))
     ∷ []
 
-fix-shows : (n : ℕ) (altitude : Altitude) (f : Fix) (bits : ℕ) → bits < 2 ^ 64 → toBits binary64 (metres altitude) ≡ bits → u64At (shown.fix n altitude f) 168 ≡ bits
+fix-shows : (n : ℕ) (altitude : Altitude) (f : Fix) (bits : ℕ) → bits < 2 ^ 64 → toBits binary64 (metres altitude) ≡ bits
+    → u64At (shown.fix n altitude f) 168 ≡ bits
 unfolding shown.fix
 fix-shows n altitude f bits l e = last-read blank (rows n altitude f) 168 (metres altitude) bits (omega arith) l e
 

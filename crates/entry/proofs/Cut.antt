@@ -77,7 +77,8 @@ module _ (clock alt ref : Option (List ℕ)) where
         cut-whole rs (cutOf rs) (omega (arith, r, l)) l (ap length e ∙ length-take-le oneTooMany rs l)
     filled l false f =
         let e : cutOf rs ≡ take (oneTooMany - 1) rs = taking (oneTooMany - 1) (full l false f) in
-        cut-torn rs (cutOf rs) (λ q. eqb-false ((length rs - oneTooMany) % receptionBytes) 0 f (omega (arith, q, l))) (ap length e ∙ length-take-le (oneTooMany - 1) rs (omega (arith, l)))
+        cut-torn rs (cutOf rs) (λ q. eqb-false ((length rs - oneTooMany) % receptionBytes) 0 f (omega (arith, q, l)))
+        (ap length e ∙ length-take-le (oneTooMany - 1) rs (omega (arith, l)))
 
     cut-receptions : reply (filed rs clock alt ref) ≡ reply (filed (cutOf rs) clock alt ref)
     cut-receptions = go (ltb (length rs) oneTooMany) refl
@@ -111,7 +112,8 @@ module _ (rs : List ℕ) (alt ref : Option (List ℕ)) where
       go true e = rw (e, clock-long b h (leb-true n 32 e))
       go false e = rw e
 
-  same : (x y z : Check) (I J : Inputs) → I .n ≡ J .n → replied (orElse x (orElse y (orElse z (Refused ClockSize)))) I ≡ replied (orElse x (orElse y (orElse z (Refused ClockSize)))) J
+  same : (x y z : Check) (I J : Inputs) → I .n ≡ J .n → replied (orElse x (orElse y (orElse z (Refused ClockSize)))) I
+      ≡ replied (orElse x (orElse y (orElse z (Refused ClockSize)))) J
   same (Refused f) y z I J e = ap (turnedAway f) e
   same Passed (Refused f) z I J e = ap (turnedAway f) e
   same Passed Passed (Refused f) I J e = ap (turnedAway f) e
@@ -120,7 +122,8 @@ module _ (rs : List ℕ) (alt ref : Option (List ℕ)) where
   -- 8,193 bytes stand for every greater length
   cut-clock : (b cut : List ℕ) → 8192 < length b → 8192 < length cut → reply (filed rs (some b) alt ref) ≡ reply (filed rs (some cut) alt ref)
   unfolding reply
-  cut-clock b cut h k = rw (check-long b h, check-long cut k) (same torn (unless (leb n 32) TooMany) received (filed rs (some b) alt ref) (filed rs (some cut) alt ref) refl)
+  cut-clock b cut h k = rw (check-long b h, check-long cut k)
+      (same torn (unless (leb n 32) TooMany) received (filed rs (some b) alt ref) (filed rs (some cut) alt ref) refl)
 
 -- ---- the altitude and the reference: one byte too many stands for every greater length
 module _ (rs : List ℕ) (clock : Option (List ℕ)) where
@@ -136,12 +139,14 @@ module _ (rs : List ℕ) (clock : Option (List ℕ)) where
   off true = refl
   off false = refl
 
-  cut-altitude : (a cut : List ℕ) (ref : Option (List ℕ)) → 16 < length a → 16 < length cut → reply (filed rs clock (some a) ref) ≡ reply (filed rs clock (some cut) ref)
+  cut-altitude : (a cut : List ℕ) (ref : Option (List ℕ)) → 16 < length a → 16 < length cut → reply (filed rs clock (some a) ref)
+      ≡ reply (filed rs clock (some cut) ref)
   cut-altitude a cut ref h k =
       torn-by (some a) ref (rw (ne-eqb (length a) 16 (λ e. omega arith)))
       ∙ sym (torn-by (some cut) ref (rw (ne-eqb (length cut) 16 (λ e. omega arith))))
 
-  cut-reference : (r cut : List ℕ) (alt : Option (List ℕ)) → 8 < length r → 8 < length cut → reply (filed rs clock alt (some r)) ≡ reply (filed rs clock alt (some cut))
+  cut-reference : (r cut : List ℕ) (alt : Option (List ℕ)) → 8 < length r → 8 < length cut → reply (filed rs clock alt (some r))
+      ≡ reply (filed rs clock alt (some cut))
   cut-reference r cut alt h k =
       torn-by alt (some r) (rw (ne-eqb (length r) 8 (λ e. omega arith)) (off (sized 16 alt)))
       ∙ sym (torn-by alt (some cut) (rw (ne-eqb (length cut) 8 (λ e. omega arith)) (off (sized 16 alt))))

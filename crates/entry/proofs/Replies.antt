@@ -70,7 +70,8 @@ module _ (n : ℕ) (altitude : Altitude) (h : code.Answer) (a : Answer Fix) (A :
   fix-reply b e f = ap (made 0) f ∙ told-by case.Fix e
 
   pub refusal-reply
-      : (r : Reply) (why : Refusal) (k d : ℕ) → h .case ≡ case.Refused why → k ≡ refusalNumber why → d ≡ refusalDetail why → (r .number ≡ k) × (r .bytes ≡ refusal k d n)
+      : (r : Reply) (why : Refusal) (k d : ℕ) → h .case ≡ case.Refused why → k ≡ refusalNumber why → d ≡ refusalDetail why → (r .number ≡ k)
+      × (r .bytes ≡ refusal k d n)
       → r ≡ answered n altitude a
   refusal-reply r why k d e f g q =
       ap₂ (λ (x : ℕ) (l : List ℕ). made x l) (q .0 ∙ f) (q .1 ∙ ap₂ (λ (x y : ℕ). refusal x y n) f g) ∙ told-by (case.Refused why) e
@@ -85,11 +86,13 @@ pub bare : (k d n m : ℕ) → 9 < k → refusal k d n ≡ refusal k d m
 unfolding refusal
 bare k d n m h = rw (lt-leb k 9 h)
 
-pub away-reply : (r : Reply) (fault : Fault) (k d n : ℕ) → k ≡ numberOf fault → d ≡ detailOf fault → (r .number ≡ k) × (r .bytes ≡ refusal k d n) → r ≡ turnedAway fault n
+pub away-reply : (r : Reply) (fault : Fault) (k d n : ℕ) → k ≡ numberOf fault → d ≡ detailOf fault → (r .number ≡ k) × (r .bytes ≡ refusal k d n) → r
+    ≡ turnedAway fault n
 away-reply r fault k d n f g h = ap₂ (λ (x : ℕ) (l : List ℕ). made x l) (h .0 ∙ f) (h .1 ∙ ap₂ (λ (x y : ℕ). refusal x y n) f g)
 
 pub bare-reply
-    : (r : Reply) (fault : Fault) (k d n : ℕ) → k ≡ numberOf fault → d ≡ detailOf fault → 9 < numberOf fault → (r .number ≡ k) × (r .bytes ≡ refusal k d 0) → r ≡ turnedAway fault n
+    : (r : Reply) (fault : Fault) (k d n : ℕ) → k ≡ numberOf fault → d ≡ detailOf fault → 9 < numberOf fault → (r .number ≡ k)
+    × (r .bytes ≡ refusal k d 0) → r ≡ turnedAway fault n
 bare-reply r fault k d n f g l h = away-reply r fault k d 0 f g h ∙ ap (made (numberOf fault)) (bare (numberOf fault) (detailOf fault) 0 n l)
 
 -- more than 32 receptions are turned away by 15 or 10
@@ -108,7 +111,14 @@ abbrev pub untorn : Inputs → Inputs
 untorn I = record { whole = true; n = I .n; at = I .at; clock = I .clock; altitude = I .altitude; reference = I .reference }
 
 pub came-whole : (I : Inputs) → checkInputs I ≡ Passed → checkInputs (untorn I) ≡ Passed
-came-whole I e = subst (λ (w : Bool). checkInputs (record { whole = w; n = I .n; at = I .at; clock = I .clock; altitude = I .altitude; reference = I .reference }) ≡ Passed) (is-whole I e) e
+came-whole I e = subst (λ (w : Bool). checkInputs (record {
+  whole = w;
+  n = I .n;
+  at = I .at;
+  clock = I .clock;
+  altitude = I .altitude;
+  reference = I .reference;
+}) ≡ Passed) (is-whole I e) e
 
 pub torn-or-whole : (I : Inputs) → problemOf (untorn I) ≡ problemOf I
 unfolding problemOf

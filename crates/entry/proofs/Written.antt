@@ -49,12 +49,14 @@ module _ (I : Inputs) (passes : checkInputs I ≡ Passed) where
     in-time : SFits w64 (x .«transmit_ps»)
     in-time =
         let p = demand-met (problemOf I) small .claim .fixed x .0 e .shown in
-        subst (λ (y : Fix). SFits w64 (y .«transmit_ps»)) (sym (p .shows)) (held-fits (transmit (problemOf I .«reference_ps») (demand-met (problemOf I) small .claim .fixed x .0 e .best)) (T→eq _ (p .inI64)))
+        subst (λ (y : Fix). SFits w64 (y .«transmit_ps»)) (sym (p .shows))
+        (held-fits (transmit (problemOf I .«reference_ps») (demand-met (problemOf I) small .claim .fixed x .0 e .best)) (T→eq _ (p .inI64)))
 
     stands : Stands (recordOf (problemOf I .n) (problemOf I .shown) (fix x)) (problemOf I .n) (problemOf I .shown) x
     stands = fix-stands (problemOf I .n) (problemOf I .shown) x (omega (arith, small)) free few-used in-time
 
-  pub written : (r : Reply) (out after : List ℕ) → r ≡ reply I → length (r .bytes) ≡ 176 → after ≡ stored out (r .bytes) → Demanded (problemOf I) after
+  pub written : (r : Reply) (out after : List ℕ) → r ≡ reply I → length (r .bytes) ≡ 176 → after ≡ stored out (r .bytes)
+      → Demanded (problemOf I) after
   written r out after e l s =
       let w : take 176 after ≡ recordOf (problemOf I .n) (problemOf I .shown) (solveProblem (problemOf I)) =
       ap (take 176) s ∙ take-at (r .bytes) (drop 176 out) 176 l ∙ ap (λ (q : Reply). q .bytes) e ∙ shown in
@@ -62,6 +64,7 @@ module _ (I : Inputs) (passes : checkInputs I ≡ Passed) where
         answer = solveProblem (problemOf I);
         demand = demand-met (problemOf I) small;
         written = w;
-        shows = λ x q. subst (λ (t : List ℕ). Stands t (problemOf I .n) (problemOf I .shown) x) (sym (w ∙ ap (recordOf (problemOf I .n) (problemOf I .shown)) q)) (stands x q);
+        shows = λ x q. subst (λ (t : List ℕ). Stands t (problemOf I .n) (problemOf I .shown) x)
+            (sym (w ∙ ap (recordOf (problemOf I .n) (problemOf I .shown)) q)) (stands x q);
         alone = no-other (problemOf I);
       }

@@ -1,7 +1,7 @@
 // Numbers as people write them: digits with a point among them or none, a minus in front or none.
 
-// With fewer than this there is room for a digit more. A whole number of 15 digits is one that an f64 holds, and so is a
-// power of ten below that, so that their quotient is the f64 nearest to the decimal.
+// With fewer than this there is room for a digit more. A whole number of 15 digits is one that an f64 holds, and so is
+// a power of ten below that, so that their quotient is the f64 nearest to the decimal.
 const MOST: u64 = 100_000_000_000_000;
 
 // What is read of a decimal: `whole` / `scale`, if it is good. There was a digit where it has `some`.

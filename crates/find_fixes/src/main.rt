@@ -4,8 +4,8 @@
 //     find_fixes FILE --ecef X Y Z RADIUS                 metres
 //
 // The nearest fix of the file comes first, then a line for each within the radius, in file order: its place, from 0,
-// and its distance. A file or a query that is turned away is said on standard error, and then nothing is written; so are
-// other arguments, and an output that fails.
+// and its distance. A file or a query that is turned away is said on standard error, and then nothing is written; so
+// are other arguments, and an output that fails.
 //
 // The file is read block by block, for the language has no heap: each block is whole records, but for the last of a
 // torn file, and what is found in a block is found by `near`.

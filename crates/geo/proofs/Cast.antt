@@ -1,4 +1,5 @@
--- What Rust's cast to i64 gives: a number that an i64 holds, the nearest end of the range for a binary64 outside of it, and 0 for a not-a-number. Assumes nothing.
+-- What Rust's cast to i64 gives: a number that an i64 holds, the nearest end of the range for a binary64 outside of it, and 0 for a not-a-number.
+-- Assumes nothing.
 use mathlib.Core.Path.{_≡_, refl, sym, ap}
 use mathlib.Core.Bool.{Bool, true, false, _||_, true≢false, false≢true}
 use Prim.Native.Nat.{ℕ, _+_, _*_, _/_, _^_, _≤_, _<_}

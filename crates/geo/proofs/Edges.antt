@@ -16,29 +16,36 @@ use Rattle.libm.specs.Atan.{reduce, series, atan, signs, quarter, quotient, ata
 use Rattle.libm.specs.Hypotenuse.{scaled, hypot}
 use Rattle.libm.specs.Hypotenuse as length
 use Rattle.geo.specs.declared.Geodetic.{Geodetic}
-use Rattle.geo.specs.Geo.{A, F, E2, toRadians, toDegrees, primeVertical, toEcef, height, bowring, roundsTo, fromEcef, enuBasis, millimetres, toMm, metres, fromMm}
+use Rattle.geo.specs.Geo.{A, F, E2, toRadians, toDegrees, primeVertical, toEcef, height, bowring, roundsTo, fromEcef, enuBasis, millimetres}
+use Rattle.geo.specs.Geo.{toMm, metres, fromMm}
 
 abbrev at : Float → Float → Float → Geodetic
 at lat lon h = record { «lat_deg» = lat; «lon_deg» = lon; «height_m» = h }
 
 -- ---- "ECEF (6378137, 0, 0) is latitude, longitude, height 0."
 pub on-the-equator : fromEcef (decimal 6378137 0 ∷ nought ∷ nought ∷ []) ≡ at nought nought nought
-unfolding fromEcef roundsTo bowring height primeVertical toDegrees A E2 F sincos sin cos kSin kCos atan2 signs hypot scaled root high negative switch abs neg add sub mul div lt eq ne round ofBits toBits
+unfolding fromEcef roundsTo bowring height primeVertical toDegrees A E2 F sincos sin cos kSin kCos atan2 signs hypot scaled root high negative switch
+    abs neg add sub mul div lt eq ne round ofBits toBits
 on-the-equator = refl
 
 -- a pole, where the height is taken along the axis
 pub at-a-pole : fromEcef (nought ∷ nought ∷ neg (decimal 6356752314245179 9) ∷ []) ≡ at (# 0xC056800000000000) nought nought
-unfolding fromEcef roundsTo bowring height primeVertical toDegrees A E2 F sincos sin cos quadrant kSin kCos qx remPio2 split atan2 signs quarter hypot scaled root high negative signed switch abs neg add sub mul div lt le eq ne round ofBits toBits
+unfolding fromEcef roundsTo bowring height primeVertical toDegrees A E2 F sincos sin cos quadrant kSin kCos qx remPio2 split atan2 signs quarter hypot
+    scaled root high negative signed switch abs neg add sub mul div lt le eq ne round ofBits toBits
 at-a-pole = refl
 
 -- an aircraft
-pub aloft : fromEcef (neg (decimal 2694045 0) ∷ neg (decimal 4266893 0) ∷ decimal 38998705 1 ∷ []) ≡ at (# 0x4042F12ACC67C563) (# 0xC05E9120DB76F771) (# 0x40BD1274E159EC00)
-unfolding fromEcef roundsTo bowring height primeVertical toDegrees A E2 F sincos sin cos kSin kCos qx atan2 atan reduce series signs quotient hypot scaled length.medium root high negative signed switch abs neg add sub mul div lt eq ne round ofBits toBits
+pub aloft : fromEcef (neg (decimal 2694045 0) ∷ neg (decimal 4266893 0) ∷ decimal 38998705 1 ∷ [])
+    ≡ at (# 0x4042F12ACC67C563) (# 0xC05E9120DB76F771) (# 0x40BD1274E159EC00)
+unfolding fromEcef roundsTo bowring height primeVertical toDegrees A E2 F sincos sin cos kSin kCos qx atan2 atan reduce series signs quotient hypot
+    scaled length.medium root high negative signed switch abs neg add sub mul div lt eq ne round ofBits toBits
 aloft = refl
 
 -- ---- the way back, for a place south and east
-pub sydney : toEcef (at (neg (decimal 339 1)) (decimal 1512 1) (decimal 10000 0)) ≡ # 0xC151BE34DEC0C997 ∷ # 0x41438232C61DC739 ∷ # 0xC14B07936645784A ∷ []
-unfolding toEcef toRadians primeVertical A E2 F sincos sin cos quadrant kSin kCos qx remPio2 reduction.medium npio2Hw lost split stage root high negative signed switch abs neg add sub mul div le ofInt toUnsigned round ofBits toBits
+pub sydney : toEcef (at (neg (decimal 339 1)) (decimal 1512 1) (decimal 10000 0))
+    ≡ # 0xC151BE34DEC0C997 ∷ # 0x41438232C61DC739 ∷ # 0xC14B07936645784A ∷ []
+unfolding toEcef toRadians primeVertical A E2 F sincos sin cos quadrant kSin kCos qx remPio2 reduction.medium npio2Hw lost split stage root high
+    negative signed switch abs neg add sub mul div le ofInt toUnsigned round ofBits toBits
 sydney = refl
 
 -- an angle beyond ±7 radians has no sine and no cosine
@@ -62,11 +69,14 @@ unfolding toMm millimetres halfAway toSigned neg mul round
 halves = refl
 
 -- "`to_mm` saturates at the ends of i64, and a not-a-number gives 0, as Rust's cast does."
-pub ends : (toMm (decimal 1 0 ∷ nan ∷ neg (decimal 1 0) ∷ []) ≡ pos 1000 ∷ pos 0 ∷ negsuc 999 ∷ []) × (toMm (inf false ∷ inf true ∷ # 0x7FEFFFFFFFFFFFFF ∷ []) ≡ pos 0x7fff_ffff_ffff_ffff ∷ negsuc 0x7fff_ffff_ffff_ffff ∷ pos 0x7fff_ffff_ffff_ffff ∷ [])
+pub ends : (toMm (decimal 1 0 ∷ nan ∷ neg (decimal 1 0) ∷ []) ≡ pos 1000 ∷ pos 0 ∷ negsuc 999 ∷ [])
+    × (toMm (inf false ∷ inf true ∷ # 0x7FEFFFFFFFFFFFFF ∷ [])
+    ≡ pos 0x7fff_ffff_ffff_ffff ∷ negsuc 0x7fff_ffff_ffff_ffff ∷ pos 0x7fff_ffff_ffff_ffff ∷ [])
 unfolding toMm millimetres halfAway toSigned neg mul round ofBits
 ends = (refl, refl)
 
 -- the ends of i64, and -1: the nearest binary64, then one division
-pub from-the-ends : fromMm (negsuc 0x7fff_ffff_ffff_ffff ∷ pos 0x7fff_ffff_ffff_ffff ∷ negsuc 0 ∷ []) ≡ # 0xC340624DD2F1A9FC ∷ # 0x4340624DD2F1A9FC ∷ # 0xBF50624DD2F1A9FC ∷ []
+pub from-the-ends : fromMm (negsuc 0x7fff_ffff_ffff_ffff ∷ pos 0x7fff_ffff_ffff_ffff ∷ negsuc 0 ∷ [])
+    ≡ # 0xC340624DD2F1A9FC ∷ # 0x4340624DD2F1A9FC ∷ # 0xBF50624DD2F1A9FC ∷ []
 unfolding fromMm metres ofInt div round ofBits
 from-the-ends = refl

@@ -1,4 +1,5 @@
--- From 1/2 up to 1 a value and its root have bits that differ from a count of 2 ^ -53 by the same number, so that the counts decide which value is the root. Assumes nothing.
+-- From 1/2 up to 1 a value and its root have bits that differ from a count of 2 ^ -53 by the same number, so that the counts decide which value is
+-- the root. Assumes nothing.
 use mathlib.Core.Path.{_≡_, sym, ap, _∙_}
 use Prim.Native.Nat.{ℕ, _+_, _-_, _*_, _/_, _%_, _^_, _≤_, _<_}
 use native.Mathlib.Nat.{le-of-lt, lt-of-lt-of-le, mul-pos, mul-le-mul-left}
@@ -28,9 +29,11 @@ root-units m lo hi =
     let field : b / 2 ^ 52 ≡ 1022 = omega arith in
     let rest : b % 2 ^ 52 ≡ t = omega arith in
     let back : 2 ^ 52 + t ≡ m = omega arith in
-    let e : # b ≡ ofFields binary64 false 1022 t = clear b (omega arith) ∙ ap (λ (x : ℕ). ofFields binary64 false x (b % 2 ^ 52)) field ∙ ap (ofFields binary64 false 1022) rest in
+    let e : # b ≡ ofFields binary64 false 1022 t = clear b (omega arith) ∙ ap (λ (x : ℕ). ofFields binary64 false x (b % 2 ^ 52)) field
+    ∙ ap (ofFields binary64 false 1022) rest in
     ap root e
-    ∙ root-value (ofFields binary64 false 1022 t) ((2 ^ 52 + t) * 2 ^ 1021) (fields-mid false 1021 t (omega arith)) (mul-pos (omega arith) (pow-pos 1021))
+    ∙ root-value (ofFields binary64 false 1022 t) ((2 ^ 52 + t) * 2 ^ 1021) (fields-mid false 1021 t (omega arith))
+    (mul-pos (omega arith) (pow-pos 1021))
     ∙ ap (λ (x : ℕ). rootUnits (x * 2 ^ 1021 * 2 ^ 1074)) back
     ∙ ap (λ (x : ℕ). rootUnits (m * 2 ^ 1021 * x)) (pow-add 2 53 1021)
     ∙ ap rootUnits (regroup m (2 ^ 53) (2 ^ 1021))

@@ -1,4 +1,5 @@
--- geo.rs by the steps of binary64: WGS 84 (NIMA TR8350.2), geodetic position to and from Earth-centred Earth-fixed metres, and the local basis. Definitions only.
+-- geo.rs by the steps of binary64: WGS 84 (NIMA TR8350.2), geodetic position to and from Earth-centred Earth-fixed
+-- metres, and the local basis. Definitions only.
 use Prim.Native.Nat.{ℕ, zero, suc}
 use mathlib.Core.Bool.{cond}
 use mathlib.Core.List.{List, [], _∷_}
@@ -30,15 +31,17 @@ E2 = F ⊗ (decimal 2 0 ⊖ F)
 unfoldable pub C : Float
 C = decimal 299792458 0
 
--- Rust's `f64::to_radians` and `f64::to_degrees`. Document 01: "Degrees and radians are one multiplication by the rounded constant." The constants are π / 180 and 180 / π, here by their first 32
--- digits. Rust writes `PI / 180.0` and `180.0 / PI`, which are the same (proofs/Constants.antt).
+-- Rust's `f64::to_radians` and `f64::to_degrees`. Document 01: "Degrees and radians are one multiplication by the
+-- rounded constant." The constants are π / 180 and 180 / π, here by their first 32 digits. Rust writes `PI / 180.0` and
+-- `180.0 / PI`, which are the same (proofs/Constants.antt).
 unfoldable pub toRadians : Float → Float
 toRadians x = x ⊗ decimal 17453292519943295769236907684886 33
 
 unfoldable pub toDegrees : Float → Float
 toDegrees x = x ⊗ decimal 57295779513082320876798154814105 30
 
--- n of `to_ecef` and `from_ecef`, `A / (1.0 - E2 * sin_lat * sin_lat).sqrt()`: the radius of curvature in the prime vertical
+-- n of `to_ecef` and `from_ecef`, `A / (1.0 - E2 * sin_lat * sin_lat).sqrt()`: the radius of curvature in the prime
+-- vertical
 unfoldable pub primeVertical : Float → Float
 primeVertical sinLat = A ⊘ root (one ⊖ E2 ⊗ sinLat ⊗ sinLat)
 
@@ -87,7 +90,8 @@ enuBasis latDeg lonDeg =
     ∷ ((lat .cos ⊗ lon .cos) ∷ (lat .cos ⊗ lon .sin) ∷ lat .sin ∷ [])
     ∷ []
 
--- `(metres * 1000.0).round() as i64`. `toSigned 63` is the cast to i64. Document 01: "`to_mm` saturates at the ends of i64, and a not-a-number gives 0, as Rust's cast does."
+-- `(metres * 1000.0).round() as i64`. `toSigned 63` is the cast to i64. Document 01: "`to_mm` saturates at the ends of
+-- i64, and a not-a-number gives 0, as Rust's cast does."
 unfoldable pub millimetres : Float → ℤ
 millimetres metres = toSigned 63 (halfAway (metres ⊗ decimal 1000 0))
 

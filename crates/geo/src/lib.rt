@@ -4,7 +4,8 @@ mod curvature;
 
 ghost use mathlib.Core.Path.{_≡_};
 ghost use mathlib.Core.Bool.{true};
-ghost use Rattle.geo.specs.Geo.{toRadians, toDegrees, toEcef, height, bowring, fromEcef, enuBasis, millimetres, toMm, metres, fromMm};
+ghost use Rattle.geo.specs.Geo.{toRadians, toDegrees, toEcef, height, bowring, fromEcef, enuBasis, millimetres};
+ghost use Rattle.geo.specs.Geo.{toMm, metres, fromMm};
 use curvature::prime_vertical;
 
 // The semi-major axis, metres.

@@ -67,7 +67,8 @@ module _ (I : Inputs) where
 
   -- what comes after 15 and 10
   abbrev later : Check
-  later = orElse (firstTo (checkReception (I .at)) (I .n)) (orElse (checkClock (I .clock) (I .n)) (orElse (checkAltitude (I .altitude)) (checkCovered (I .clock))))
+  later = orElse (firstTo (checkReception (I .at)) (I .n))
+      (orElse (checkClock (I .clock) (I .n)) (orElse (checkAltitude (I .altitude)) (checkCovered (I .clock))))
 
   pub torn : whole I ≡ false → Refused TornInput ≡ checkInputs I
   unfolding checkInputs
@@ -92,8 +93,10 @@ module _ (I : Inputs) where
     pub few : I .n ≤ 32
     few = leb-true (I .n) 32 (good-of _ TooMany (after-many .0))
 
-    after-receptions : (firstTo (checkReception (I .at)) (I .n) ≡ Passed) × (orElse (checkClock (I .clock) (I .n)) (orElse (checkAltitude (I .altitude)) (checkCovered (I .clock))) ≡ Passed)
-    after-receptions = or-of (firstTo (checkReception (I .at)) (I .n)) (orElse (checkClock (I .clock) (I .n)) (orElse (checkAltitude (I .altitude)) (checkCovered (I .clock)))) (after-many .1)
+    after-receptions : (firstTo (checkReception (I .at)) (I .n) ≡ Passed)
+        × (orElse (checkClock (I .clock) (I .n)) (orElse (checkAltitude (I .altitude)) (checkCovered (I .clock))) ≡ Passed)
+    after-receptions = or-of (firstTo (checkReception (I .at)) (I .n))
+        (orElse (checkClock (I .clock) (I .n)) (orElse (checkAltitude (I .altitude)) (checkCovered (I .clock)))) (after-many .1)
 
     pub passed-receptions : firstTo (checkReception (I .at)) (I .n) ≡ Passed
     passed-receptions = after-receptions .0

@@ -25,8 +25,10 @@ use Rattle.inputs.specs.declared.Fault.the-variants.{Disorder, BadField}
 use Rattle.inputs.specs.declared.Check.the-variants.{Passed}
 use Rattle.inputs.specs.declared.Given.{Given}
 use Rattle.inputs.specs.Faults.{unless, firstTo}
-use Rattle.inputs.specs.Domain.{goodTime, goodCoordinate, goodSite, goodZ, goodNoise, goodReception, goodEntry, goodMetres, goodCorrection, isZero, goodAltitude}
-use Rattle.inputs.specs.Inputs.{entryAt, Inputs, inputsOf, checkReception, goodRowTo, checkRow, kindAt, correctionAt, metresAt, checkAltitude, checkInputs, metresOf, upperAt, altitudeOf, shownOf, referenceOf, problemOf}
+use Rattle.inputs.specs.Domain.{goodTime, goodCoordinate, goodSite, goodZ, goodNoise, goodReception, goodEntry, goodMetres, goodCorrection}
+use Rattle.inputs.specs.Domain.{isZero, goodAltitude}
+use Rattle.inputs.specs.Inputs.{entryAt, Inputs, inputsOf, checkReception, goodRowTo, checkRow, kindAt, correctionAt, metresAt, checkAltitude}
+use Rattle.inputs.specs.Inputs.{checkInputs, metresOf, upperAt, altitudeOf, shownOf, referenceOf, problemOf}
 use Rattle.inputs.specs.InDomain.{InDomain, Ascending, Read, altitudeGood}
 use Rattle.inputs.proofs.Order.{both-of, good-of, or-of, few, passed-receptions, passed-clock, passed-altitude, is-covered, clock-of, first-of}
 use Rattle.receptions.specs.Identities.{before, ascends}
@@ -144,7 +146,8 @@ module _ (n : ℕ) (from : ℕ → Reception) (g : Given) (b alt ref : List ℕ)
     pub ascending : Ascending from n
     ascending i j l h = let e : suc i + (j - suc i) ≡ j = omega (arith, l) in rw e at (climbs i (j - suc i) (omega (arith, l, h)))
 
-    sites-good : (k : ℕ) → k < 3 * n → goodCoordinate (getD (fillTo (wholes 96) (λ k. getD (from (k / 3) .«site_mm») (k % 3) (pos 0)) (3 * n)) k (pos 0)) ≡ true
+    sites-good : (k : ℕ) → k < 3 * n → goodCoordinate
+        (getD (fillTo (wholes 96) (λ k. getD (from (k / 3) .«site_mm») (k % 3) (pos 0)) (3 * n)) k (pos 0)) ≡ true
     sites-good k h =
         let s = small in
         rw (fill-at (wholes 96) (λ k. getD (from (k / 3) .«site_mm») (k % 3) (pos 0)) (3 * n) k (pos 0) h (rw length-replicate (omega arith)))
@@ -159,7 +162,11 @@ module _ (n : ℕ) (from : ℕ → Reception) (g : Given) (b alt ref : List ℕ)
         let w : i < n = omega arith in
         let p = place i j n w l in
         let q = room n s in
-        rw (clock-whole .0, fill-at (floats 1024) (upperAt b n) (n * n) (i * n + j) nan p (rw length-replicate (omega (arith, p, q))), upper b n i j h l)
+        rw (
+          clock-whole .0,
+          fill-at (floats 1024) (upperAt b n) (n * n) (i * n + j) nan p (rw length-replicate (omega (arith, p, q))),
+          upper b n i j h l,
+        )
         (entry-good b n i j (clock-whole .2) h l)
 
     pub in-domain : InDomain (problemOf I)
@@ -167,10 +174,13 @@ module _ (n : ℕ) (from : ℕ → Reception) (g : Given) (b alt ref : List ℕ)
     in-domain =
         record {
           few = small;
-          times = λ i h. rw (fill-at (wholes 32) (λ i. from i .time) n i (pos 0) h (rw length-replicate (let s = small in omega arith))) (time-good from i (passes i h));
+          times = λ i h. rw (fill-at (wholes 32) (λ i. from i .time) n i (pos 0) h (rw length-replicate (let s = small in omega arith)))
+              (time-good from i (passes i h));
           sites = sites-good;
-          zs = λ i h. rw (fill-at (floats 32) (λ i. from i .z) n i nan h (rw length-replicate (let s = small in omega arith))) (z-good from i (passes i h));
-          noises = λ i h. rw (fill-at (floats 32) (λ i. from i .«noise_m2») n i nan h (rw length-replicate (let s = small in omega arith))) (noise-good from i (passes i h));
+          zs = λ i h. rw (fill-at (floats 32) (λ i. from i .z) n i nan h (rw length-replicate (let s = small in omega arith)))
+              (z-good from i (passes i h));
+          noises = λ i h. rw (fill-at (floats 32) (λ i. from i .«noise_m2») n i nan h (rw length-replicate (let s = small in omega arith)))
+              (noise-good from i (passes i h));
           clock = clock-good;
           altitude = metres-good (I .altitude) (passed-altitude I e);
         }
@@ -191,7 +201,8 @@ made n f site clock altitude reference shown =
       shown = shown;
     }
 
-module _ (f : Fields) (n : ℕ) (from : ℕ → Reception) (filled : f ≡ fieldsOf from n) (g : Given) (b alt ref : List ℕ) (e : checkInputs (inputsOf true n from g b alt ref) ≡ Passed) where
+module _ (f : Fields) (n : ℕ) (from : ℕ → Reception) (filled : f ≡ fieldsOf from n) (g : Given) (b alt ref : List ℕ)
+    (e : checkInputs (inputsOf true n from g b alt ref) ≡ Passed) where
   abbrev J : Inputs
   J = inputsOf true n from g b alt ref
 
@@ -202,8 +213,10 @@ module _ (f : Fields) (n : ℕ) (from : ℕ → Reception) (filled : f ≡ field
       → Read J (made n f site clock altitude reference shown)
   unfolding problemOf
   is-problem s c a r d =
-      let same : made n f (metresOf from n) (covarianceOf b n) (altitudeOf (J .altitude)) (referenceOf (J .reference)) (shownOf (J .altitude)) ≡ problemOf J
-      = ap₂ (λ (h : Fields) (k : List ℕ). made n h (metresOf from n) (covarianceOf k n) (altitudeOf (J .altitude)) (referenceOf (J .reference)) (shownOf (J .altitude)))
+      let same : made n f (metresOf from n) (covarianceOf b n) (altitudeOf (J .altitude)) (referenceOf (J .reference))
+      (shownOf (J .altitude)) ≡ problemOf J
+      = ap₂ (λ (h : Fields) (k : List ℕ). made n h (metresOf from n) (covarianceOf k n) (altitudeOf (J .altitude)) (referenceOf (J .reference))
+      (shownOf (J .altitude)))
       filled (sym (clock-whole n from g b alt ref e .0)) in
       rw (s, metres-held f n (few J e) from filled, c, a, r, d) (
       record { problem = same; inDomain = subst InDomain (sym same) (in-domain n from g b alt ref e); ascending = ascending n from g b alt ref e }

@@ -49,7 +49,8 @@ pub row-start : (clock : List ℕ) (n i : ℕ) → true ≡ goodRowTo clock n i 
 unfolding goodRowTo
 row-start clock n i = let e : i - i ≡ 0 = omega arith in rw e
 
-pub row-next : (clock : List ℕ) (n i j : ℕ) → i ≤ j → goodRowTo clock n i (j - i) && goodEntry i j (entryAt clock n i j) ≡ goodRowTo clock n i (j + 1 - i)
+pub row-next : (clock : List ℕ) (n i j : ℕ) → i ≤ j → goodRowTo clock n i (j - i) && goodEntry i j (entryAt clock n i j)
+    ≡ goodRowTo clock n i (j + 1 - i)
 unfolding goodRowTo
 row-next clock n i j h =
     let e : j + 1 - i ≡ suc (j - i) = omega arith in

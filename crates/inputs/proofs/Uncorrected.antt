@@ -20,7 +20,8 @@ use Rattle.inputs.specs.declared.Check.{Check}
 use Rattle.inputs.specs.declared.Check.the-variants.{Passed}
 use Rattle.inputs.specs.Faults.{orElse, unless, firstTo}
 use Rattle.inputs.specs.Domain.{goodMetres, goodAltitude}
-use Rattle.inputs.specs.Inputs.{Inputs, whole, checkReception, checkClock, checkAltitude, checkCovered, checkInputs, kindAt, correctionAt, metresAt, corrected, altitudeOf, shownOf, problemOf}
+use Rattle.inputs.specs.Inputs.{Inputs, whole, checkReception, checkClock, checkAltitude, checkCovered, checkInputs, kindAt, correctionAt}
+use Rattle.inputs.specs.Inputs.{metresAt, corrected, altitudeOf, shownOf, problemOf}
 use Rattle.inputs.specs.Uncorrected.{oldGood, oldCheck, oldAltitude, oldCheckInputs, oldProblem, Uncorrected, OldFormStays}
 use Rattle.inputs.proofs.Order.{both-of, good-of}
 
@@ -112,7 +113,8 @@ one-or-two k g e = go (eqb k 1) (eqb k 2) (eqb-true k 1) (eqb-true k 2) (both-of
 
 all-uncorrected : (alt : Option (List ℕ)) → oldCheck alt ≡ Passed → Uncorrected alt
 all-uncorrected none e = tt
-all-uncorrected (some a) e = no-correction a (one-or-two (u64At a 0) (goodMetres (f64At a 8)) (good-of (oldGood (u64At a 0) (f64At a 8)) (BadField 200) e))
+all-uncorrected (some a) e = no-correction a (one-or-two (u64At a 0) (goodMetres (f64At a 8))
+    (good-of (oldGood (u64At a 0) (f64At a 8)) (BadField 200) e))
 
 pub old-form-stays : OldFormStays
 old-form-stays = record { check = check-stays; problem = problem-stays; all = all-uncorrected }

@@ -60,7 +60,8 @@ sized size (some bytes) = eqb (length bytes) size
 unfoldable pub whole : Inputs → Bool
 whole I = I .whole && (sized 16 (I .altitude) && sized 8 (I .reference))
 
--- "receptions one by one, 12 before 11": reception i. 11 is "identity not above the one before", `ascends` that is false
+-- "receptions one by one, 12 before 11": reception i. 11 is "identity not above the one before", `ascends` that is
+-- false
 unfoldable pub checkReception : (ℕ → Reception) → ℕ → Check
 checkReception at i =
     orElse (unless (goodReception (at i)) (BadField i)) (unless (ascends (λ k. at k .id) i) (Disorder i))

@@ -202,7 +202,8 @@ pub fn check_inputs(
     altitude: &[u8],
     reference: &[u8],
 ) -> Check
-    ensures { λ r. ⌜ ((at : ℕ → reception.Reception) → Holds f n at → r ≡ inputs.checkInputs (inputs.inputsOf whole n at g
+    ensures { λ r. ⌜ ((at : ℕ → reception.Reception) → Holds f n at → r
+        ≡ inputs.checkInputs (inputs.inputsOf whole n at g
         (now (clock .entry)) (now (altitude .entry)) (now (reference .entry)))) ⌝ }
 {
     if !whole {

@@ -1,5 +1,5 @@
--- A test by high words is a test of size: the bits of two values that are finite and not negative have the values' order, so the high word of x is below h exactly
--- where |x| is below the value with the high word h and the low word 0. Assumes nothing.
+-- A test by high words is a test of size: the bits of two values that are finite and not negative have the values' order, so the high word of x is
+-- below h exactly where |x| is below the value with the high word h and the low word 0. Assumes nothing.
 use mathlib.Core.Path.{_≡_, refl, sym, ap, _∙_, subst}
 use mathlib.Core.Logic.{inl, inr}
 use mathlib.Core.Bool.{Bool, true, false, true≢false}
@@ -38,7 +38,8 @@ grows (suc x) (suc y) t u h k l = elim (eq-or-lt-of-le below) [
   | inl e ↦ subst (λ (z : ℕ). (2 ^ 52 + t) * 2 ^ x < (2 ^ 52 + u) * 2 ^ z) e (mul-lt-mul-of-pos-right (digits e) (pow-pos x))
   | inr m ↦
       let double : 2 * 2 ^ x ≤ 2 ^ y = le-trans (le-of-eq (sym (pow-add 2 1 x))) (pow-mono (next m)) in
-      lt-of-lt-of-le (mul-lt-mul-of-pos-right carry (pow-pos x)) (le-trans (le-of-eq (mul-assoc (2 ^ 52) 2 (2 ^ x))) (mul-le-mul (omega arith) double))
+      lt-of-lt-of-le (mul-lt-mul-of-pos-right carry (pow-pos x))
+      (le-trans (le-of-eq (mul-assoc (2 ^ 52) 2 (2 ^ x))) (mul-le-mul (omega arith) double))
 ]
   where
     below : x ≤ y
@@ -72,21 +73,27 @@ by-units (fin false m e) (inf s) a b c C h k = absurd k
 by-units (fin false m e) (fin true n d) a b c C h k = absurd (true≢false (k .0))
 by-units (fin false m e) (fin false n d) a b c C h k =
     same (m * up e * down d) (n * up d * down e) a b
-    (λ l. lt-of-not-le (λ u. not-le-of-lt l (le-of-mul-le-mul-right (transfer b a c c (n * up d) (m * up e) (down d) (down e) (down-pos d) (down-pos e) (sym (k .1)) (sym (h .1)) u) C)))
+    (λ l. lt-of-not-le (λ u. not-le-of-lt l (le-of-mul-le-mul-right
+    (transfer b a c c (n * up d) (m * up e) (down d) (down e) (down-pos d) (down-pos e) (sym (k .1)) (sym (h .1)) u) C)))
     (λ l. transfer (n * up d) (m * up e) (down d) (down e) b a c c C C (k .1) (h .1) (mul-le-mul-right c l))
 
 fields-grow : (p q : ℕ) → p < q → size (p / 2 ^ 52) (p % 2 ^ 52) < size (q / 2 ^ 52) (q % 2 ^ 52)
 fields-grow p q h = grows (p / 2 ^ 52) (q / 2 ^ 52) (p % 2 ^ 52) (q % 2 ^ 52) (omega arith) (omega arith) (omega arith)
 
 fields-keep : (p q : ℕ) → q ≤ p → size (q / 2 ^ 52) (q % 2 ^ 52) ≤ size (p / 2 ^ 52) (p % 2 ^ 52)
-fields-keep p q h = elim (eq-or-lt-of-le h) [ inl e ↦ le-of-eq (ap (λ (z : ℕ). size (z / 2 ^ 52) (z % 2 ^ 52)) e) | inr l ↦ le-of-lt (fields-grow q p l) ]
+fields-keep p q h = elim (eq-or-lt-of-le h) [
+  | inl e ↦ le-of-eq (ap (λ (z : ℕ). size (z / 2 ^ 52) (z % 2 ^ 52)) e)
+  | inr l
+      ↦ le-of-lt (fields-grow q p l)
+]
 
 -- bits below an infinity's
 pub by-bits : (p q : ℕ) → p < 0x7ff0000000000000 → q < 0x7ff0000000000000 → lt (# p) (# q) ≡ ltb p q
 by-bits p q h k =
     let u = value (p / 2 ^ 52) (p % 2 ^ 52) (omega arith) in
     let v = value (q / 2 ^ 52) (q % 2 ^ 52) (omega arith) in
-    let w = by-units (ofFields binary64 false (p / 2 ^ 52) (p % 2 ^ 52)) (ofFields binary64 false (q / 2 ^ 52) (q % 2 ^ 52)) _ _ (2 ^ 1074) (pow-pos 1074) u v in
+    let w = by-units (ofFields binary64 false (p / 2 ^ 52) (p % 2 ^ 52)) (ofFields binary64 false (q / 2 ^ 52) (q % 2 ^ 52)) _ _ (2 ^ 1074)
+    (pow-pos 1074) u v in
     rw (clear p (omega arith), clear q (omega arith)) (w ∙ same _ _ p q (fields-grow p q) (fields-keep p q))
 
 -- a finite x and its bits without the sign

@@ -23,7 +23,8 @@ sines
     × (sin limit ≡ # 0x3FE50608C26D0A08)
     × (sin (# 0x401C000000000001) ≡ nan)
     × (sin nan ≡ nan)
-unfolding sin quadrant kSin kCos qx remPio2 reduction.medium npio2Hw lost split stage high negative signed switch abs neg add sub mul le ofInt toUnsigned ofBits toBits
+unfolding sin quadrant kSin kCos qx remPio2 reduction.medium npio2Hw lost split stage high negative signed switch abs neg add sub mul le ofInt
+    toUnsigned ofBits toBits
 sines = (refl, refl, refl, refl, refl, refl, refl, refl)
 
 -- 0; 0.7, which takes qx; the binary64 nearest to pi / 2, which takes two stages; 2; an infinity
@@ -33,7 +34,8 @@ cosines
     × (cos pi-o-2 ≡ # 0x3C91A62633145C07)
     × (cos two ≡ # 0xBFDAA22657537205)
     × (cos (inf false) ≡ nan)
-unfolding cos quadrant kSin kCos qx remPio2 reduction.medium npio2Hw lost split stage high switch abs neg add sub mul le ofInt toUnsigned ofBits toBits
+unfolding cos quadrant kSin kCos qx remPio2 reduction.medium npio2Hw lost split stage high switch abs neg add sub mul le ofInt
+    toUnsigned ofBits toBits
 cosines = (refl, refl, refl, refl, refl)
 
 -- the signs of zero, the infinities, and two quotients
@@ -48,8 +50,8 @@ arcs
 unfolding atan2 atan reduce series signs quarter xInf quotient high negative signed switch abs neg add sub mul div eq ne ofBits toBits
 arcs = (refl, refl, refl, refl, refl, refl, refl)
 
--- 3 and 4 give 5, also times 2^600; an infinity with a not-a-number; the least value twice; a subnormal, where high words taken anew would change the last bit; and
--- two of one high word, where the order of the two changes it
+-- 3 and 4 give 5, also times 2^600; an infinity with a not-a-number; the least value twice; a subnormal, where high words taken anew would change the
+-- last bit; and two of one high word, where the order of the two changes it
 lengths
     : (hypot (# 0x4008000000000000) (# 0x4010000000000000) ≡ # 0x4014000000000000)
     × (hypot (# 0x6588000000000000) (# 0x6590000000000000) ≡ # 0x6594000000000000)

@@ -40,8 +40,8 @@ series x =
     let s2 = w ⊗ (aT1 ⊕ w ⊗ (aT3 ⊕ w ⊗ (aT5 ⊕ w ⊗ (aT7 ⊕ w ⊗ aT9)))) in
     s1 ⊕ s2
 
--- the argument reduction from 7/16 on, of a = |x| by its high word: atanhi[id], atanlo[id] and the new x. 0x3FE60000 is 11/16, 0x3FF30000 is 19/16, 0x40038000 is
--- 39/16.
+-- the argument reduction from 7/16 on, of a = |x| by its high word: atanhi[id], atanlo[id] and the new x. 0x3FE60000 is
+-- 11/16, 0x3FF30000 is 19/16, 0x40038000 is 39/16.
 unfoldable pub reduce : Float → ℕ → Arc
 reduce a ix =
     let onehalf = # 0x3FF8000000000000 in  -- 1.5
@@ -51,17 +51,19 @@ reduce a ix =
     (cond (ltb ix 0x40038000) (record { hi = atanhi 2; lo = atanlo 2; x = (a ⊖ onehalf) ⊘ (one ⊕ onehalf ⊗ a) })
     (record { hi = atanhi 3; lo = atanlo 3; x = neg one ⊘ a }))
 
--- `atan`. Three choices decide bits: from the high word 0x44100000 on, which is 2^66, it is a quarter turn; below 0x3E200000, which is 2^-29, it is x itself; and
--- below 0x3FDC0000, which is 7/16, x is not reduced.
+-- `atan`. Three choices decide bits: from the high word 0x44100000 on, which is 2^66, it is a quarter turn; below
+-- 0x3E200000, which is 2^-29, it is x itself; and below 0x3FDC0000, which is 7/16, x is not reduced.
 unfoldable pub atan : Float → Float
 atan x =
     let p = reduce (abs x) (high x) in
     let z = p .hi ⊖ ((p .x ⊗ series (p .x) ⊖ p .lo) ⊖ p .x) in
-    cond (leb 0x44100000 (high x)) (cond (ne x x) (x ⊕ x) (cond (negative x) (neg (atanhi 3) ⊖ atanlo 3) (atanhi 3 ⊕ atanlo 3)))
+    cond (leb 0x44100000 (high x)) (cond (ne x x) (x ⊕ x)
+    (cond (negative x) (neg (atanhi 3) ⊖ atanlo 3) (atanhi 3 ⊕ atanlo 3)))
     (cond (ltb (high x) 0x3fdc0000) (cond (ltb (high x) 0x3e200000) x (x ⊖ x ⊗ series x))
     (signed x z))
 
--- the constants of e_atan2.c: 1.0e-300, 1.5707963267948965580E+00, 3.1415926535897931160E+00 and 1.2246467991473531772E-16
+-- the constants of e_atan2.c: 1.0e-300, 1.5707963267948965580E+00, 3.1415926535897931160E+00 and
+-- 1.2246467991473531772E-16
 abbrev pub tiny : Float
 tiny = # 0x01A56E1FC2F8F359
 
@@ -87,11 +89,12 @@ unfoldable pub xInf : ℕ → ℕ → Float
 xInf m iy =
     let three = # 0x4008000000000000 in
     let pi-o-4 = # 0x3FE921FB54442D18 in  -- 7.8539816339744827900E-01
-    cond (eqb iy 0x7ff00000) (switch m (pi-o-4 ⊕ tiny) (neg pi-o-4 ⊖ tiny) (three ⊗ pi-o-4 ⊕ tiny) (neg three ⊗ pi-o-4 ⊖ tiny))
+    cond (eqb iy 0x7ff00000) (switch m (pi-o-4 ⊕ tiny) (neg pi-o-4 ⊖ tiny) (three ⊗ pi-o-4 ⊕ tiny)
+    (neg three ⊗ pi-o-4 ⊖ tiny))
     (switch m nought (neg one ⊗ nought) (pi ⊕ tiny) (neg pi ⊖ tiny))
 
--- "compute y/x", by the gap of the exponents, `k = (iy-ix)>>20`, and its limit of 60. The shift goes down: so k > 60 is iy - ix ≥ 61 * 2^20, and k < -60 is
--- iy - ix < -60 * 2^20.
+-- "compute y/x", by the gap of the exponents, `k = (iy-ix)>>20`, and its limit of 60. The shift goes down: so k > 60 is
+-- iy - ix ≥ 61 * 2^20, and k < -60 is iy - ix < -60 * 2^20.
 unfoldable pub quotient : Float → Float → Float
 quotient y x =
     cond (leb (high x + 61 * 2 ^ 20) (high y)) (pi-o-2 ⊕ half ⊗ pi-lo)

@@ -6,8 +6,9 @@ use lib.Ieee.{Float}
 use Rattle.binary64.specs.Steps.{_⊕_, _⊖_, _⊗_, #, one, half}
 use Rattle.libm.specs.Words.{high, word}
 
--- `__kernel_sin`: the sine of x + y, where y is the tail of x; iy is 0 where there is no tail. Three choices decide bits: below the high word 0x3E400000, which is
--- 2^-27, it is x itself; the polynomial is in Horner's form; and where iy is 0 no step has y in it.
+-- `__kernel_sin`: the sine of x + y, where y is the tail of x; iy is 0 where there is no tail. Three choices decide
+-- bits: below the high word 0x3E400000, which is 2^-27, it is x itself; the polynomial is in Horner's form; and where
+-- iy is 0 no step has y in it.
 unfoldable pub kSin : Float → Float → ℕ → Float
 kSin x y iy =
     let S1 = # 0xBFC5555555555549 in  -- -1.66666666666666324348e-01
@@ -23,12 +24,14 @@ kSin x y iy =
     (cond (eqb iy 0) (x ⊕ v ⊗ (S1 ⊕ z ⊗ r))
     (x ⊖ ((z ⊗ (half ⊗ y ⊖ v ⊗ r) ⊖ y) ⊖ v ⊗ S1)))
 
--- k_cos.c's qx, by the high word of x: 0.28125 above 0x3FE90000, which is 0.78125, and else |x| / 4 with the low word cleared, the high word less 2 in its exponent
+-- k_cos.c's qx, by the high word of x: 0.28125 above 0x3FE90000, which is 0.78125, and else |x| / 4 with the low word
+-- cleared, the high word less 2 in its exponent
 unfoldable pub qx : ℕ → Float
 qx ix = cond (ltb 0x3fe90000 ix) (# 0x3FD2000000000000) (word (ix - 0x00200000))
 
--- `__kernel_cos`: the cosine of x + y, where y is the tail of x. Two choices decide bits: below the high word 0x3E400000, which is 2^-27, it is 1; and from the high
--- word 0x3FD33333 on, about 0.3, it is the form with qx, which later versions replaced.
+-- `__kernel_cos`: the cosine of x + y, where y is the tail of x. Two choices decide bits: below the high word
+-- 0x3E400000, which is 2^-27, it is 1; and from the high word 0x3FD33333 on, about 0.3, it is the form with qx, which
+-- later versions replaced.
 unfoldable pub kCos : Float → Float → Float
 kCos x y =
     let C1 = # 0x3FA555555555554C in  -- 4.16666666666666019037e-02

@@ -1,4 +1,5 @@
--- What sine and cosine promise beyond their steps: document 02, Item 4. Statements only; proofs/Meaning.antt proves all.
+-- What sine and cosine promise beyond their steps: document 02, Item 4. Statements only; proofs/Meaning.antt proves
+-- all.
 use mathlib.Core.Path.{_≡_}
 use lib.Ieee.{Float, nan}
 use Rattle.binary64.specs.Steps.{one}

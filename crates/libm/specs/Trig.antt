@@ -22,10 +22,12 @@ quadrant y =
     let c = kCos (y .y0) (y .y1) in
     record { sin = switch n s c (neg s) (neg c); cos = switch n c (neg s) (neg c) s }
 
--- `sin`. Up to the high word 0x3FE921FB, which is that of pi / 4, the kernel takes x as it is, with no tail. Beyond that |x| is reduced, and the sign of x goes to
--- the result (`remPio2`). Past `limit`, where fdlibm goes on reducing, document 01 has not-a-number, and so an infinity and a not-a-number give it.
+-- `sin`. Up to the high word 0x3FE921FB, which is that of pi / 4, the kernel takes x as it is, with no tail. Beyond
+-- that |x| is reduced, and the sign of x goes to the result (`remPio2`). Past `limit`, where fdlibm goes on reducing,
+-- document 01 has not-a-number, and so an infinity and a not-a-number give it.
 unfoldable pub sin : Float → Float
-sin x = cond (leb (high x) 0x3fe921fb) (kSin x nought 0) (cond (le (abs x) limit) (signed x (quadrant (remPio2 (abs x)) .sin)) nan)
+sin x = cond (leb (high x) 0x3fe921fb) (kSin x nought 0)
+    (cond (le (abs x) limit) (signed x (quadrant (remPio2 (abs x)) .sin)) nan)
 
 -- `cos`, by the same cases
 unfoldable pub cos : Float → Float

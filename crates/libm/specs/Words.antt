@@ -1,12 +1,13 @@
--- What the functions of fdlibm share: the high word of a binary64 and its sign, by which they test their arguments, and a `switch` of four cases. Definitions only.
+-- What the functions of fdlibm share: the high word of a binary64 and its sign, by which they test their arguments, and
+-- a `switch` of four cases. Definitions only.
 use Prim.Native.Nat.{ℕ, _*_, _/_, _%_, _^_}
 use mathlib.Core.Bool.{Bool, cond}
 use lib.Dec.{leb, eqb}
 use lib.Ieee.{Float, binary64, neg, toBits}
 use Rattle.binary64.specs.Steps.{#}
 
--- `__HI(x) & 0x7fffffff`: the high word of x without the sign, fdlibm's ix. For a finite x, `high x < h` says that |x| is below `word h` (`by-high` in
--- proofs/Sizes.antt). It is 0x7FF00000 at an infinity and above that at a not-a-number.
+-- `__HI(x) & 0x7fffffff`: the high word of x without the sign, fdlibm's ix. For a finite x, `high x < h` says that |x|
+-- is below `word h` (`by-high` in proofs/Sizes.antt). It is 0x7FF00000 at an infinity and above that at a not-a-number.
 unfoldable pub high : Float → ℕ
 high x = toBits binary64 x / 2 ^ 32 % 2 ^ 31
 

@@ -1,4 +1,5 @@
--- The published covariance of solve.rs, and the two methods of its `Solution`, by the steps of binary64. Definitions only.
+-- The published covariance of solve.rs, and the two methods of its `Solution`, by the steps of binary64. Definitions
+-- only.
 use Prim.Native.Nat.{ℕ}
 use mathlib.Core.Bool.{cond}
 use mathlib.Core.List.{List, [], _∷_}
@@ -29,7 +30,8 @@ errorFloorM = decimal 5 0
 
 -- the entry of row i and column j in `published`, whose diagonal has the floor squared besides
 unfoldable pub inflated : ℕ → ℕ → Float → Float
-inflated i j x = let value = x ⊗ errorInflation ⊗ errorInflation in cond (eqb i j) (value ⊕ errorFloorM ⊗ errorFloorM) value
+inflated i j x = let value = x ⊗ errorInflation ⊗ errorInflation in
+    cond (eqb i j) (value ⊕ errorFloorM ⊗ errorFloorM) value
 
 abbrev pub publishedRow : List Float → ℕ → List Float
 publishedRow inverse i = three (λ j. inflated i j (at inverse 4 i j))
@@ -57,4 +59,5 @@ enuCovariance position c =
 
 -- `Solution::horizontal_sigma_m`: the root of half the trace of the east-north covariance
 unfoldable pub horizontalSigmaM : Geodetic → List (List Float) → Float
-horizontalSigmaM position c = let enu = enuCovariance position c in root (maxOf (half ⊗ (entry enu 0 0 ⊕ entry enu 1 1)) nought)
+horizontalSigmaM position c = let enu = enuCovariance position c in
+    root (maxOf (half ⊗ (entry enu 0 0 ⊕ entry enu 1 1)) nought)

@@ -40,7 +40,8 @@ impl Matrix {
 
     pub fn add(a: &mut [f64; 1024], n: usize, row: usize, column: usize, value: f64)
         requires { ⌜ (n ≤ 32) × (row < n) × (column < n) ⌝ }
-        ensures { λ _. ⌜ now (a .exit) ≡ put (now (a .entry)) n row column (at (now (a .entry)) n row column ⊕ value) ⌝ }
+        ensures { λ _. ⌜ now (a .exit) ≡ put (now (a .entry)) n row column
+            (at (now (a .entry)) n row column ⊕ value) ⌝ }
     {
         let sum = dense::at(&*a, n, row, column) + value;
         dense::put(&mut *a, n, row, column, sum);

@@ -18,4 +18,5 @@ abbrev pub rowsOf : List Float → List (List Float)
 rowsOf numbers = three (at numbers 3 0) ∷ three (at numbers 3 1) ∷ three (at numbers 3 2) ∷ []
 
 abbrev pub nineOf : List (List Float) → List Float
-nineOf b = entry b 0 0 ∷ entry b 0 1 ∷ entry b 0 2 ∷ entry b 1 0 ∷ entry b 1 1 ∷ entry b 1 2 ∷ entry b 2 0 ∷ entry b 2 1 ∷ entry b 2 2 ∷ []
+nineOf b = entry b 0 0 ∷ entry b 0 1 ∷ entry b 0 2 ∷ entry b 1 0 ∷ entry b 1 1 ∷ entry b 1 2 ∷ entry b 2 0 ∷ entry b 2 1
+    ∷ entry b 2 2 ∷ []

@@ -1,5 +1,5 @@
--- Document 02, item 1, as C has it: what a record holds as six words, eighteen numbers and the transmit time. Definitions
--- and statements only: proofs/Returned.antt proves each.
+-- Document 02, item 1, as C has it: what a record holds as six words, eighteen numbers and the transmit time.
+-- Definitions and statements only: proofs/Returned.antt proves each.
 use Prim.Native.Nat.{ℕ, _*_, _^_, _<_, _≤_}
 use mathlib.Core.Path.{_≡_}
 use mathlib.Core.Bool.{Bool, not, cond, _&&_, _||_}
@@ -126,18 +126,22 @@ pub record ReadFrom (s words : List ℕ) (numbers : List Float) (time : ℤ) : T
 -- "Writing a read record gives its bytes again"
 abbrev pub RecordsWrittenAgain : Type 0
 RecordsWrittenAgain =
-    (s out words : List ℕ) (numbers : List Float) (time : ℤ) → Bytes s → ReadFrom s words numbers time → 176 ≤ length out
+    (s out words : List ℕ) (numbers : List Float) (time : ℤ) → Bytes s → ReadFrom s words numbers time
+    → 176 ≤ length out
     → (recordAnswer words numbers time out ≡ 0) × (recordOutput words numbers time out ≡ stored out s)
 
 -- and what was written is read again
 abbrev pub RecordsReadAgain : Type 0
 RecordsReadAgain =
     (words : List ℕ) (numbers : List Float) (time : ℤ) (out : List ℕ) → Lends words numbers time
-    → recordAnswer words numbers time out ≡ 0 → ReadFrom (take 176 (recordOutput words numbers time out)) words numbers time
+    → recordAnswer words numbers time out ≡ 0
+    → ReadFrom (take 176 (recordOutput words numbers time out)) words numbers time
 
 -- "any other value gets 18"
 abbrev pub RecordsRefused : Type 0
 RecordsRefused =
     (words : List ℕ) (numbers : List Float) (time : ℤ) (out : List ℕ) → Lends words numbers time → 176 ≤ length out
-    → (recordAnswer words numbers time out ≡ malformedRecord → (s : List ℕ) → Bytes s → ReadFrom s words numbers time → ⊥)
-    × (((s : List ℕ) → Bytes s → ReadFrom s words numbers time → ⊥) → recordAnswer words numbers time out ≡ malformedRecord)
+    → (recordAnswer words numbers time out ≡ malformedRecord
+    → (s : List ℕ) → Bytes s → ReadFrom s words numbers time → ⊥)
+    × (((s : List ℕ) → Bytes s → ReadFrom s words numbers time → ⊥)
+    → recordAnswer words numbers time out ≡ malformedRecord)

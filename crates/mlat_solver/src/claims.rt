@@ -33,7 +33,8 @@ pub extern "C" fn mlat_enu_covariance(
     covariance: &[f64; 9],
     enu: &mut [f64; 9],
 )
-    ensures { λ _. ⌜ now (enu .exit) ≡ nineOf (enuCovariance (geodeticOf (now (position .entry))) (rowsOf (now (covariance .entry)))) ⌝ }
+    ensures { λ _. ⌜ now (enu .exit) ≡ nineOf
+        (enuCovariance (geodeticOf (now (position .entry))) (rowsOf (now (covariance .entry)))) ⌝ }
 {
     *enu = nine(limits::enu_covariance(geodetic(position), rows(covariance)));
 }

@@ -101,7 +101,8 @@ pub extern "C" fn mlat_read_record(
 ) -> u32
     ensures answer { λ r. ⌜ r ≡ readOf (now (bytes .entry)) .refusal ⌝ }
     ensures words { λ _. ⌜ now (words .exit) ≡ held.wordsAfter (readOf (now (bytes .entry))) (now (words .entry)) ⌝ }
-    ensures numbers { λ _. ⌜ now (numbers .exit) ≡ held.numbersAfter (readOf (now (bytes .entry))) (now (numbers .entry)) ⌝ }
+    ensures numbers { λ _. ⌜ now (numbers .exit)
+        ≡ held.numbersAfter (readOf (now (bytes .entry))) (now (numbers .entry)) ⌝ }
     ensures time { λ _. ⌜ now (time .exit) ≡ held.timeAfter (readOf (now (bytes .entry))) (now (time .entry)) ⌝ }
 {
     let reading = reader::read(bytes);
@@ -186,8 +187,10 @@ pub extern "C" fn mlat_write_record(
     time: i64,
     out: &mut [u8],
 ) -> u32
-    ensures answer { λ r. ⌜ r ≡ held.recordAnswer (now (words .entry)) (now (numbers .entry)) time (now (out .entry)) ⌝ }
-    ensures output { λ _. ⌜ now (out .exit) ≡ held.recordOutput (now (words .entry)) (now (numbers .entry)) time (now (out .entry)) ⌝ }
+    ensures answer { λ r. ⌜ r ≡ held.recordAnswer (now (words .entry)) (now (numbers .entry)) time
+        (now (out .entry)) ⌝ }
+    ensures output { λ _. ⌜ now (out .exit)
+        ≡ held.recordOutput (now (words .entry)) (now (numbers .entry)) time (now (out .entry)) ⌝ }
 {
     if out.len() < 176 {
         return refusals::SHORT_OUTPUT;

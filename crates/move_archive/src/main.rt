@@ -4,9 +4,9 @@
 //     move_archive to FILE      records of 176 bytes, to 152 each
 //     move_archive from FILE    records of 152 bytes, back to 176 each
 //
-// All or nothing: every record is looked at before the first is written. The first that is turned away is said on standard
-// error with its place, from 0, and its number, and then nothing is written. Otherwise the number of records and the
-// bytes before and after are said there.
+// All or nothing: every record is looked at before the first is written. The first that is turned away is said on
+// standard error with its place, from 0, and its number, and then nothing is written. Otherwise the number of records
+// and the bytes before and after are said there.
 ghost use Prim.Native.Nat.{_≤_};
 use libc::STDERR_FILENO;
 use libc::STDOUT_FILENO;

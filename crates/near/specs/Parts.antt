@@ -1,5 +1,5 @@
--- The nearest fix of a file that is looked at part by part, as a program without room for all of it does. Definitions and
--- one statement, which proofs/Parts.antt proves.
+-- The nearest fix of a file that is looked at part by part, as a program without room for all of it does. Definitions
+-- and one statement, which proofs/Parts.antt proves.
 use Prim.Native.Nat.{ℕ, _+_, _%_, _^_, _<_}
 use mathlib.Core.Path.{_≡_}
 use mathlib.Core.Bool.{cond}
@@ -19,7 +19,8 @@ nearestIn part point = cond (eqb (length part % 176) 0) (heldTo part point (reco
 unfoldable pub joined : Held → ℕ → Held → Held
 joined first base second = step (second .found) ((base + second .place) % 2 ^ 64) (second .distance) first
 
--- The nearest fix of a file is that of its parts, wherever it is cut between records; a file is shorter than 2^64 bytes.
+-- The nearest fix of a file is that of its parts, wherever it is cut between records; a file is shorter than 2^64
+-- bytes.
 abbrev pub NearestOfParts : Type 0
 NearestOfParts =
     (first second : List ℕ) (point : List Float) → Sound (first ++ second) → Whole first → GoodPoint point

@@ -30,7 +30,8 @@ lowest-mod : (w x : ℕ) → lowest w x ≡ x % 256 ^ w
 unfolding lowest
 lowest-mod zero x = let e : x % 1 ≡ 0 = omega arith in sym e
 lowest-mod (suc w) x =
-    let m : x % (256 ^ w * 256) ≡ x / 256 % 256 ^ w * 256 + x % 256 = mod-mul x {m = 256 ^ w} {c = 256} (one-le-pow w 256 (omega arith)) (omega arith) in
+    let m : x % (256 ^ w * 256) ≡ x / 256 % 256 ^ w * 256 + x % 256 =
+    mod-mul x {m = 256 ^ w} {c = 256} (one-le-pow w 256 (omega arith)) (omega arith) in
     rw (lowest-mod w (x / 256), pow-suc 256 w, m) (omega arith)
 
 shows : (s : List ℕ) (k : ℕ) (x : Float) → wordAt 8 s k ≡ lowest 8 (bits x) → Shows s k x

@@ -1,5 +1,5 @@
--- Document 02, item 1: the record at a place of a file, what a record holds, and the bytes of what was read. Definitions
--- only.
+-- Document 02, item 1: the record at a place of a file, what a record holds, and the bytes of what was read.
+-- Definitions only.
 use Prim.Native.Nat.{ℕ, _+_, _*_, _/_, _%_}
 use mathlib.Core.Bool.{Bool, cond, _&&_}
 use mathlib.Core.List.{List, [], _∷_}

@@ -1,5 +1,5 @@
--- Document 02, item 1: "It takes apart exactly the records that meet these rules." The rules of a list of 176 bytes, sentence
--- by sentence; the fields stand where document 01's table has them. Definitions only.
+-- Document 02, item 1: "It takes apart exactly the records that meet these rules." The rules of a list of 176 bytes,
+-- sentence by sentence; the fields stand where document 01's table has them. Definitions only.
 use Prim.Native.Nat.{ℕ, _+_, _*_, _<_, _≤_}
 use mathlib.Core.Path.{_≡_}
 use mathlib.Core.Bool.{true, cond}
@@ -43,8 +43,8 @@ Zero s from to = (j : ℕ) → from ≤ j → j < to → getD s j 0 ≡ 0
 abbrev pub Finite : List ℕ → ℕ → Type 0
 Finite s k = isFinite (f64At s k) ≡ true
 
--- Document 01: dof is "used receptions, plus one with altitude, less 4", and "the number of ones in the mask is the count of
--- used receptions". Nothing equals a dof below zero.
+-- Document 01: dof is "used receptions, plus one with altitude, less 4", and "the number of ones in the mask is the
+-- count of used receptions". Nothing equals a dof below zero.
 abbrev pub IsDof : ℕ → ℕ → ℕ → Type 0
 IsDof mask kind detail = detail + 4 ≡ count (has mask) 32 + cond (eqb kind 0) 0 1
 
@@ -57,7 +57,8 @@ pub record DetailRule (answer detail : ℕ) : Type 0 where
   pub badField
       : answer ≡ refusals.badField → (detail ≤ 31) ⊎ (((100 ≤ detail) × (detail ≤ 131)) ⊎ (detail ≡ 200))
   pub others
-      : (answer ≡ refusals.tooFew → ⊥) → (answer ≡ refusals.disorder → ⊥) → (answer ≡ refusals.badField → ⊥) → detail ≡ 0
+      : (answer ≡ refusals.tooFew → ⊥) → (answer ≡ refusals.disorder → ⊥)
+      → (answer ≡ refusals.badField → ⊥) → detail ≡ 0
 
 pub record FixRules (s : List ℕ) : Type 0 where
   -- "A fix has version 8, altitude kind 0 to 2,"

@@ -1,5 +1,5 @@
--- The rules of specs/Rules.antt as tests, in the order in which they are made: `meetsRules` holds exactly where the rules
--- do (`TestsAreRules` of specs/Meaning.antt). Definitions only.
+-- The rules of specs/Rules.antt as tests, in the order in which they are made: `meetsRules` holds exactly where the
+-- rules do (`TestsAreRules` of specs/Meaning.antt). Definitions only.
 use Prim.Native.Nat.{ℕ, zero, suc, _+_, _*_, _^_}
 use mathlib.Core.Bool.{Bool, true, not, cond, _&&_, _||_}
 use mathlib.Core.List.{List}

@@ -28,7 +28,8 @@ use Rattle.receptions.proofs.Filling.{fill-next, fill-three, fill-at, f
 abbrev pub Begins : (ℕ → Reception) → ℕ → List Reception → Type 0
 Begins at i list = (length list ≡ 32) × ((k : ℕ) → k < i → listedAt list k ≡ at k)
 
-pub begins-next : (at : ℕ → Reception) (i : ℕ) (list : List Reception) {r : Reception} → Begins at i list → i < 32 → r ≡ at i → Begins at (i + 1) (set list i r)
+pub begins-next : (at : ℕ → Reception) (i : ℕ) (list : List Reception) {r : Reception} → Begins at i list → i < 32 → r ≡ at i
+    → Begins at (i + 1) (set list i r)
 begins-next at i list {r} b l e = (length-set list i r ∙ b .0, λ k h. go k (eq-or-lt-of-le (let q : k ≤ i = omega arith in q)))
   where
     go : (k : ℕ) → (k ≡ i) ⊎ (k < i) → listedAt (set list i r) k ≡ at k
@@ -75,7 +76,8 @@ stored f i r a =
     record {
       ascending = a;
       time = set (f .time) i (r .time);
-      «site_mm» = set (set (set (f .«site_mm») (3 * i) (getD (r .«site_mm») 0 (pos 0))) (3 * i + 1) (getD (r .«site_mm») 1 (pos 0))) (3 * i + 2) (getD (r .«site_mm») 2 (pos 0));
+      «site_mm» = set (set (set (f .«site_mm») (3 * i) (getD (r .«site_mm») 0 (pos 0))) (3 * i + 1) (getD (r .«site_mm») 1 (pos 0))) (3 * i + 2)
+          (getD (r .«site_mm») 2 (pos 0));
       z = set (f .z) i (r .z);
       «noise_m2» = set (f .«noise_m2») i (r .«noise_m2»);
       filler = set (f .filler) i (r .filler);
@@ -152,7 +154,8 @@ module _ (at : ℕ → Reception) (n i : ℕ) (few : n ≤ 32) (h : i < n) {f : 
   coordinate-held : (k a : ℕ) → k < 3 * n → k / 3 ≡ i → k % 3 ≡ a → getD (f .«site_mm») k (pos 0) ≡ getD (at i .«site_mm») a (pos 0)
   unfolding fieldsOf
   coordinate-held k a l d m =
-      rw (e, ← d, ← m) (fill-at (wholes 96) (λ k. getD (at (k / 3) .«site_mm») (k % 3) (pos 0)) (3 * n) k (pos 0) l (rw length-replicate (omega arith)))
+      rw (e, ← d, ← m) (fill-at (wholes 96) (λ k. getD (at (k / 3) .«site_mm») (k % 3) (pos 0)) (3 * n) k (pos 0) l
+      (rw length-replicate (omega arith)))
 
   -- as it is read: the first three
   pub site-held : siteIn (f .«site_mm») i ≡ siteIn (at i .«site_mm») 0

@@ -8,7 +8,8 @@ use lib.ListN.{length, take, drop, getD, set}
 use lib.Seq.{drop-cons, take-suc, set-at, length-take-le, take-all}
 
 -- one byte more
-pub copy-next : (r out : List ℕ) (i : ℕ) → i < length r → i < length out → set (take i r ++ drop i out) i (getD r i 0) ≡ take (i + 1) r ++ drop (i + 1) out
+pub copy-next : (r out : List ℕ) (i : ℕ) → i < length r → i < length out → set (take i r ++ drop i out) i (getD r i 0) ≡ take (i + 1) r
+    ++ drop (i + 1) out
 copy-next r out i h k =
     ap (λ (l : List ℕ). set (take i r ++ l) i (getD r i 0)) (drop-cons out i 0 k)
     ∙ set-at (take i r) (getD out i 0) (drop (suc i) out) (getD r i 0) i (length-take-le i r (omega arith))

@@ -1,4 +1,5 @@
--- Document 01, 'The fix: 176 bytes' and 'When there is no fix': the record, by places and what stands there. Definitions only.
+-- Document 01, 'The fix: 176 bytes' and 'When there is no fix': the record, by places and what stands there.
+-- Definitions only.
 use Prim.Native.Nat.{ℕ, _+_}
 use mathlib.Core.Bool.{cond}
 use mathlib.Core.List.{List, [], _∷_, _++_}

@@ -1,6 +1,7 @@
-// Replays recorded inputs of the original: standard input holds them one after the other, in the form that RECORDING.md beside this program states. Prints how many were
-// compared and how many differ, in the answer or in any of the 176 bytes; and how many were compared with a falsified record, and how many of those differ, which is to be all:
-// the record of input k has its byte k % 176 changed, byte 0 being the answer.
+// Replays recorded inputs of the original: standard input holds them one after the other, in the form that RECORDING.md
+// beside this program states. Prints how many were compared and how many differ, in the answer or in any of the 176
+// bytes; and how many were compared with a falsified record, and how many of those differ, which is to be all: the
+// record of input k has its byte k % 176 changed, byte 0 being the answer.
 use cases::Tally;
 use libc::STDOUT_FILENO;
 

@@ -1,8 +1,8 @@
 // Replays recorded moves of fix records to the archive's form and back with what an independent implementation answers:
-// standard input holds them one after the other, in the form that RECORDING.md beside this program states. Prints how many
-// were compared and how many differ, in the number or in any byte of the output; and how many were compared with a
-// falsified answer, and how many of those differ, which is to be all: of move k byte k % 200 of its output is changed, or,
-// past its end, the number.
+// standard input holds them one after the other, in the form that RECORDING.md beside this program states. Prints how
+// many were compared and how many differ, in the number or in any byte of the output; and how many were compared with a
+// falsified answer, and how many of those differ, which is to be all: of move k byte k % 200 of its output is changed,
+// or, past its end, the number.
 use cases::Tally;
 use libc::STDOUT_FILENO;
 

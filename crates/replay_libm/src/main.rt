@@ -1,6 +1,7 @@
-// Replays recorded results of the public fdlibm, so that a gate needs no other implementation at hand. Standard input holds records of four 64-bit words,
-// little-endian: the function (0 sin, 1 cos, 2 atan2, 3 hypot), its arguments, and the result's bits. Prints how many were compared and how many differ; and how many were
-// compared with a falsified result, and how many of those differ, which is to be all. All not-a-numbers count as one value.
+// Replays recorded results of the public fdlibm, so that a gate needs no other implementation at hand. Standard input
+// holds records of four 64-bit words, little-endian: the function (0 sin, 1 cos, 2 atan2, 3 hypot), its arguments, and
+// the result's bits. Prints how many were compared and how many differ; and how many were compared with a falsified
+// result, and how many of those differ, which is to be all. All not-a-numbers count as one value.
 use cases::Tally;
 use libc::STDOUT_FILENO;
 

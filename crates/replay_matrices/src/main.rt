@@ -1,7 +1,8 @@
 // Replays recorded calculations with matrices with what the original linalg.rs gives: standard input holds them one
 // after the other, in the form that RECORDING.md beside this program states. Prints how many were compared and how many
 // differ, in the number or in any entry of the output; and how many were compared with a falsified answer, and how many
-// of those differ, which is to be all: of call k byte k % 64 of what it leaves is changed, or, past its end, the number.
+// of those differ, which is to be all: of call k byte k % 64 of what it leaves is changed, or, past its end, the
+// number.
 use cases::Tally;
 use libc::STDOUT_FILENO;
 

@@ -1,8 +1,9 @@
 // Replays recorded searches of files of fix records, those within a radius and the nearest, with what an independent
 // implementation answers: standard input holds them one after the other, in the form that RECORDING.md beside this
 // program states. Prints how many were compared and how many differ, in the number, in the count or place, or in any
-// entry of the lent buffer; and how many were compared with a falsified answer, and how many of those differ, which is to be all: of
-// search k byte k % 24 of the count or place and of the entries is changed, or, past their end, the number.
+// entry of the lent buffer; and how many were compared with a falsified answer, and how many of those differ, which is
+// to be all: of search k byte k % 24 of the count or place and of the entries is changed, or, past their end, the
+// number.
 ghost use Prim.Native.Nat.{_≤_};
 use cases::Tally;
 use libc::STDOUT_FILENO;

@@ -1,7 +1,8 @@
 // Replays recorded inputs of an independent reading of document 02, item 9: standard input holds them one after the
-// other, in the form that RECORDING.md beside this program states. Prints how many were compared and how many differ, in
-// the answer, the detail or any of the 640 bytes lent; and how many were compared with a falsified answer, and how many of
-// those differ, which is to be all: input k has a byte of its answer changed where k is even, and of its states elsewhere.
+// other, in the form that RECORDING.md beside this program states. Prints how many were compared and how many differ,
+// in the answer, the detail or any of the 640 bytes lent; and how many were compared with a falsified answer, and how
+// many of those differ, which is to be all: input k has a byte of its answer changed where k is even, and of its states
+// elsewhere.
 use cases::Tally;
 use libc::STDOUT_FILENO;
 

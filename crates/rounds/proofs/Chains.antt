@@ -1,4 +1,5 @@
--- Every chain of changes is followed by the computation, and the computation comes to what demand 3 calls an ending, a settled round, or a change in every round. Assumes nothing.
+-- Every chain of changes is followed by the computation, and the computation comes to what demand 3 calls an ending, a settled round, or a change in
+-- every round. Assumes nothing.
 use mathlib.Core.Path.{_≡_, refl, sym, ap, subst, _∙_}
 use mathlib.Core.Logic.{inl, inr}
 use mathlib.Core.Option.{Option, some}
@@ -20,21 +21,25 @@ module _ {Q F X : Type 0} (P : Setting Q F X) where
   -- ---- only kept receptions are ever included
   pub change-within : {S S′ : Subset} {p : Option Q} {f : F} → Change P S p S′ f → Within P S → Within P S′
   change-within (removal i h w g) W j t = W j (g j .0 t .0)
-  change-within {S} (return i h a l g) W j t = elim (g j .0 t) [ inl u ↦ W j u | inr e ↦ subst (λ (x : ℕ). T (kept P x)) (sym e) (out-kept P S i (l .0 .candidate)) ]
+  change-within {S} (return i h a l g) W j t = elim (g j .0 t)
+      [ inl u ↦ W j u | inr e ↦ subst (λ (x : ℕ). T (kept P x)) (sym e) (out-kept P S i (l .0 .candidate)) ]
 
   pub chain-within : {E S : Subset} {p q : Option Q} {k : ℕ} → Chain P E q k S p → Within P S → Within P E
   chain-within start W = W
   chain-within (then c s) W = chain-within s (change-within c W)
 
   -- ---- the computation follows a chain
-  after-round : (k : ℕ) (S : Subset) (p : Option Q) (x : Step F) → Within P S → Says P S p x → roundsTo P (suc k) S p ≡ after P (λ R q. roundsTo P k R q) S x
+  after-round : (k : ℕ) (S : Subset) (p : Option Q) (x : Step F) → Within P S → Says P S p x → roundsTo P (suc k) S p
+      ≡ after P (λ R q. roundsTo P k R q) S x
   unfolding roundsTo
   after-round k S p x W h = ap (after P (λ R q. roundsTo P k R q) S) (says-round P S p W x h)
 
-  pub after-chain : {E S : Subset} {p q : Option Q} {k : ℕ} → Chain P E q k S p → Within P S → (m d : ℕ) → m ≡ k + d → roundsTo P m S p ≡ roundsTo P d E q
+  pub after-chain : {E S : Subset} {p q : Option Q} {k : ℕ} → Chain P E q k S p → Within P S → (m d : ℕ) → m ≡ k + d → roundsTo P m S p
+      ≡ roundsTo P d E q
   after-chain {E} {q = q} start W m d e = ap (λ (x : ℕ). roundsTo P x E q) (omega (arith, e))
   after-chain (then c s) W zero d e = absurd (omega (arith, e))
-  after-chain {S = S} {p = p} (then {S′ = R} {f = f} c s) W (suc m) d e = after-round m S p (changes R f) W c ∙ after-chain s (change-within c W) m d (omega (arith, e))
+  after-chain {S = S} {p = p} (then {S′ = R} {f = f} c s) W (suc m) d e = after-round m S p (changes R f) W c
+      ∙ after-chain s (change-within c W) m d (omega (arith, e))
 
   pub after-settled : (S : Subset) (p : Option Q) (f : F) (k : ℕ) → Within P S → Settled P S p f → roundsTo P (suc k) S p ≡ closed (P .later S f)
   after-settled S p f k W h = after-round k S p (settles f) W h
@@ -58,7 +63,8 @@ module _ {Q F X : Type 0} (P : Setting Q F X) where
   run zero S p W = never start refl
   run (suc m) S p W = go (round P S p) (round-says P S p W) (λ R q v. run m R q v)
     where
-      go : (x : Step F) → Says P S p x → ((R : Subset) (q : Option Q) → Within P R → Run m R q (roundsTo P m R q)) → Run (suc m) S p (after P (λ R q. roundsTo P m R q) S x)
+      go : (x : Step F) → Says P S p x → ((R : Subset) (q : Option Q) → Within P R → Run m R q (roundsTo P m R q))
+          → Run (suc m) S p (after P (λ R q. roundsTo P m R q) S x)
       go (ends e) h rec = ended 0 e (omega arith) start h refl
       go (changes R f) h rec = one-more m (roundsTo P m R (some (P .params f))) h (rec R (some (P .params f)) (change-within h W))
       go (settles f) h rec = settled 0 f (omega arith) start h refl

@@ -27,8 +27,14 @@ of-above : (S : Subset) (z : ℕ → Float) (i : ℕ) → T (S i) → T (lt five
 of-above S z i t u = and-both (S i) (lt five (z i)) t u
 
 -- the first best of some candidates is that of fewer, where it is one of them
-first-of-fewer : (p q : Subset) (beats : ℕ → ℕ → Bool) (k i : ℕ) → ((j : ℕ) → T (q j) → T (p j)) → T (q i) → FirstBest p beats k i → FirstBest q beats k i
-first-of-fewer p q beats k i fewer c b = record { below = b .below; candidate = c; unbeaten = λ j l t. b .unbeaten j l (fewer j t); lowest = λ j l t. b .lowest j l (fewer j t) }
+first-of-fewer : (p q : Subset) (beats : ℕ → ℕ → Bool) (k i : ℕ) → ((j : ℕ) → T (q j) → T (p j)) → T (q i) → FirstBest p beats k i
+    → FirstBest q beats k i
+first-of-fewer p q beats k i fewer c b = record {
+  below = b .below;
+  candidate = c;
+  unbeaten = λ j l t. b .unbeaten j l (fewer j t);
+  lowest = λ j l t. b .lowest j l (fewer j t);
+}
 
 -- ---- candidates are ranked by their residuals, which are numbers
 turned : {A B : Type 0} → A ⊎ B → B ⊎ A
@@ -100,7 +106,8 @@ module _ {Q F X : Type 0} (P : Setting Q F X) where
       record {
         below = h .below;
         candidate = a .0;
-        unbeaten = λ j l t. not-T (lt (z i) (z j)) (λ u. T-not (greater z j i) (h .unbeaten j l (of-above S z j t (lt-trans five (z i) (z j) (a .1) u))) u);
+        unbeaten = λ j l t. not-T (lt (z i) (z j))
+            (λ u. T-not (greater z j i) (h .unbeaten j l (of-above S z j t (lt-trans five (z i) (z j) (a .1) u))) u);
         lowest = λ j l t. low j l t (either (lt five (z j)));
       },
       a .1,
@@ -114,7 +121,8 @@ module _ {Q F X : Type 0} (P : Setting Q F X) where
 
         low : (j : ℕ) → j < i → T (S j) → T (lt five (z j)) ⊎ T (not (lt five (z j))) → T (lt (z j) (z i))
         low j l t (inl u) = h .lowest j l (of-above S z j t u)
-        low j l t (inr u) = elim (lt-split five (z j) (z i) (N j (before j l) (W j t)) (a .1)) [ inl v ↦ absurd (T-not (lt five (z j)) u v) | inr v ↦ v ]
+        low j l t (inr u) = elim (lt-split five (z j) (z i) (N j (before j l) (W j t)) (a .1))
+            [ inl v ↦ absurd (T-not (lt five (z j)) u v) | inr v ↦ v ]
 
     pub some-worst : (i : ℕ) → Worst P S f i → IsWorst S f (some i)
     some-worst i w = first-of-fewer S (above S z) (greater z) (P .n) i (λ j t. above-of S z j t .0) (of-above S z i (w .0 .candidate) (w .1)) (w .0)
@@ -130,7 +138,8 @@ module _ {Q F X : Type 0} (P : Setting Q F X) where
       record {
         below = h .below;
         candidate = a .0;
-        unbeaten = λ j l o. not-T (lt (z j) (z i)) (λ u. T-not (less z j i) (h .unbeaten j l (of-near S z j o (at-most j l (out-kept S j o) (lower j u)))) u);
+        unbeaten = λ j l o. not-T (lt (z j) (z i))
+            (λ u. T-not (less z j i) (h .unbeaten j l (of-near S z j o (at-most j l (out-kept S j o) (lower j u)))) u);
         lowest = λ j l o. low j l o (either (le (z j) five));
       },
       a .1,
@@ -147,7 +156,9 @@ module _ {Q F X : Type 0} (P : Setting Q F X) where
 
         low : (j : ℕ) → j < i → T (leftOut P S j) → T (le (z j) five) ⊎ T (not (le (z j) five)) → T (lt (z i) (z j))
         low j l o (inl u) = h .lowest j l (of-near S z j o u)
-        low j l o (inr u) = elim (lt-split five (z i) (z j) (N i (h .below) (out-kept S i (a .0))) (more j (before j l) (out-kept S j o) u)) [ inl v ↦ absurd (le-lt five (z i) (a .1) v) | inr v ↦ v ]
+        low j l o (inr u) = elim (lt-split five (z i) (z j) (N i (h .below) (out-kept S i (a .0))) (more j (before j l) (out-kept S j o) u))
+            [ inl v ↦ absurd (le-lt five (z i) (a .1) v) | inr v ↦ v ]
 
     pub some-least : (i : ℕ) → Least P S f i → IsLeast S f (some i)
-    some-least i w = first-of-fewer (leftOut P S) (near (kept P) S z) (less z) (P .n) i (λ j t. near-of S z j t .0) (of-near S z i (w .0 .candidate) (w .1)) (w .0)
+    some-least i w = first-of-fewer (leftOut P S) (near (kept P) S z) (less z) (P .n) i (λ j t. near-of S z j t .0)
+        (of-near S z i (w .0 .candidate) (w .1)) (w .0)

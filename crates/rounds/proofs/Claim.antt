@@ -41,7 +41,14 @@ module _ {Q F X : Type 0} (P : Setting Q F X) (L : Remaining F X) (exact : Exact
     fixed-of x h (ended k e l s w q) = absurd (let z : _≡_ {A = ℕ} 0 1 = cc in omega arith)
     fixed-of x h (never s q) = absurd (let z : _≡_ {A = ℕ} 0 1 = cc in omega arith)
     fixed-of x h (settled {E = E} {q = p} k f l s w q) =
-        record { used = E; before = p; inTime = record { changes = k; most = omega arith; chain = s }; best = f; settled = w; shown = exact .shows E f x .0 (closed-fix P x (P .later E f) (sym q ∙ h)) }
+        record {
+          used = E;
+          before = p;
+          inTime = record { changes = k; most = omega arith; chain = s };
+          best = f;
+          settled = w;
+          shown = exact .shows E f x .0 (closed-fix P x (P .later E f) (sym q ∙ h));
+        }
 
     refused-of : (e : Refusal) → a ≡ refused e → Run P (cap P) (kept P) none a → Refused P L e
     refused-of e h (ended {E = E} {q = p} k d l s w q) =
@@ -60,11 +67,13 @@ module _ {Q F X : Type 0} (P : Setting Q F X) (L : Remaining F X) (exact : Exact
   -- ---- from the rounds to the answer
   settles : (S : Subset) (p : Option Q) (f : F) → InTime P S p → Settled P S p f → solved P ≡ closed (P .later S f)
   unfolding solved
-  settles S p f t h = after-chain P (t .chain) (all-kept P) (cap P) (suc (cap P - suc (t .changes))) (omega (arith, t .most)) ∙ after-settled P S p f (cap P - suc (t .changes)) (chain-within P (t .chain) (all-kept P)) h
+  settles S p f t h = after-chain P (t .chain) (all-kept P) (cap P) (suc (cap P - suc (t .changes))) (omega (arith, t .most))
+      ∙ after-settled P S p f (cap P - suc (t .changes)) (chain-within P (t .chain) (all-kept P)) h
 
   ends : (S : Subset) (p : Option Q) (e : Refusal) → InTime P S p → Ends P S p e → solved P ≡ refused e
   unfolding solved
-  ends S p e t h = after-chain P (t .chain) (all-kept P) (cap P) (suc (cap P - suc (t .changes))) (omega (arith, t .most)) ∙ after-end P S p e (cap P - suc (t .changes)) (chain-within P (t .chain) (all-kept P)) h
+  ends S p e t h = after-chain P (t .chain) (all-kept P) (cap P) (suc (cap P - suc (t .changes))) (omega (arith, t .most))
+      ∙ after-end P S p e (cap P - suc (t .changes)) (chain-within P (t .chain) (all-kept P)) h
 
   of-fixed : (x : X) → Fixed P L x → solved P ≡ fix x
   of-fixed x h = settles (h .used) (h .before) (h .best) (h .inTime) (h .settled) ∙ ap (closed) (exact .shows (h .used) (h .best) x .1 (h .shown))

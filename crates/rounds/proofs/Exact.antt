@@ -23,7 +23,8 @@ use Rattle.rounds.specs.declared.finish.Unpublished.the-variants.{Incons
 use Rattle.rounds.specs.Finish.{held, maxVarianceM2, wide, definite, certain, fixOf, inverted, finish}
 use Rattle.rounds.specs.Solve.{dofOf, tested, later}
 use Rattle.rounds.specs.Demand.{LaterExactly}
-use Rattle.rounds.specs.Later.{cholesky3, TooWide, variance, indefinite, Certain, limitBy, finalFactor, covarianceBy, transmit, Consistent, Informed, Published, Withheld}
+use Rattle.rounds.specs.Later.{cholesky3, TooWide, variance, indefinite, Certain, limitBy, finalFactor, covarianceBy, transmit, Consistent}
+use Rattle.rounds.specs.Later.{Informed, Published, Withheld}
 
 -- ---- the tests of the covariance
 module _ (c : List (List Float)) where
@@ -56,7 +57,14 @@ module _ (c : List (List Float)) where
       go true e F f = let s = wide-some (eq→T e) in inr (variance (s .0) (s .1) (s .2), by-parts true F e f)
       go false e (refused l) f = inr (indefinite l f, by-parts false (refused l) e f)
       go false e (found l) f =
-          inl (record { narrow = λ axis h. not-T (widest axis) (λ t. T-not (wide c) (eq→F e) (some-wide axis h t)); factor = l; definite = f }, by-parts false (found l) e f)
+          inl (
+            record {
+              narrow = λ axis h. not-T (widest axis) (λ t. T-not (wide c) (eq→F e) (some-wide axis h t));
+              factor = l;
+              definite = f;
+            },
+            by-parts false (found l) e f,
+          )
 
   is-certain : Certain c → certain c ≡ true
   is-certain h = by-parts false (found (h .factor)) (F→eq (wide c) (not-T (wide c) narrow)) (h .definite)
@@ -98,18 +106,24 @@ module _ (R : Receptions) (reference : ℤ) (S : Subset) (fit : Fit) where
   came : Came
   came = whitening (whitenerOver R S) refl
     where
-      timed : (l m : List Float) → Informed R reference S fit l m → Certain (covarianceBy m) → T (held (transmit reference fit)) ⊎ T (not (held (transmit reference fit))) → Came
+      timed : (l m : List Float) → Informed R reference S fit l m → Certain (covarianceBy m)
+          → T (held (transmit reference fit)) ⊎ T (not (held (transmit reference fit))) → Came
       timed l m h k (inl t) = shows l m h k t
       timed l m h k (inr t) = beyond l m h k t
 
       covered : (l m : List Float) → Informed R reference S fit l m → Came
-      covered l m h = elim (certain-cases (covarianceBy m)) [ inl k ↦ timed l m h (k .0) (either (held (transmit reference fit))) | inr k ↦ uncertain l m h (k .0) ]
+      covered l m h = elim (certain-cases (covarianceBy m)) [
+        | inl k ↦ timed l m h (k .0) (either (held (transmit reference fit)))
+        | inr k
+            ↦ uncertain l m h (k .0)
+      ]
 
       informing : (l : List Float) → Consistent R reference S fit l → (F : Factor) → finalFactor fit ≡ F → Came
       informing l h (found m) e = covered l m (record { consistent = h; factors = e })
       informing l h (refused m) e = uninformed l m h e
 
-      limiting : (l : List Float) → whitenerOver R S ≡ found l → T (lt (limitBy R reference S fit l) (fit .cost)) ⊎ T (not (lt (limitBy R reference S fit l) (fit .cost))) → Came
+      limiting : (l : List Float) → whitenerOver R S ≡ found l
+          → T (lt (limitBy R reference S fit l) (fit .cost)) ⊎ T (not (lt (limitBy R reference S fit l) (fit .cost))) → Came
       limiting l w (inl t) = inconsistent l w t
       limiting l w (inr t) = informing l (record { whitens = w; within = t }) (finalFactor fit) refl
 
@@ -125,17 +139,21 @@ module _ (R : Receptions) (reference : ℤ) (S : Subset) (fit : Fit) where
   unfolding later
   by-whitener F e = ap (tested R reference S fit) e
 
-  by-limit : (l : List Float) (b : Bool) → whitenerOver R S ≡ found l → lt (limitBy R reference S fit l) (fit .cost) ≡ b → later R reference S fit ≡ cond b (fails Inconsistent) finished
+  by-limit : (l : List Float) (b : Bool) → whitenerOver R S ≡ found l → lt (limitBy R reference S fit l) (fit .cost) ≡ b → later R reference S fit
+      ≡ cond b (fails Inconsistent) finished
   by-limit l b w e = by-whitener (found l) w ∙ ap (λ (t : Bool). cond t (fails Inconsistent) finished) e
 
-  by-factor : (l : List Float) → Consistent R reference S fit l → (F : Factor) → finalFactor fit ≡ F → later R reference S fit ≡ inverted (maskOf S (R .n)) (dofOf R S) reference fit F
+  by-factor : (l : List Float) → Consistent R reference S fit l → (F : Factor) → finalFactor fit ≡ F → later R reference S fit
+      ≡ inverted (maskOf S (R .n)) (dofOf R S) reference fit F
   unfolding finish
-  by-factor l h F e = by-limit l false (h .whitens) (F→eq (lt (limitBy R reference S fit l) (fit .cost)) (h .within)) ∙ ap (inverted (maskOf S (R .n)) (dofOf R S) reference fit) e
+  by-factor l h F e = by-limit l false (h .whitens) (F→eq (lt (limitBy R reference S fit l) (fit .cost)) (h .within))
+      ∙ ap (inverted (maskOf S (R .n)) (dofOf R S) reference fit) e
 
   by-tests : (l m : List Float) → Informed R reference S fit l m → (a b : Bool) → certain (covarianceBy m) ≡ a → held (transmit reference fit) ≡ b
       → later R reference S fit ≡ cond a (cond b (gives (x m)) (fails OutOfRange)) (fails Uncertain)
   by-tests l m h a b e f =
-      by-factor l (h .consistent) (found m) (h .factors) ∙ ap₂ (λ (s t : Bool). cond s (cond t (gives (x m)) (fails OutOfRange)) (fails Uncertain)) e f
+      by-factor l (h .consistent) (found m) (h .factors)
+      ∙ ap₂ (λ (s t : Bool). cond s (cond t (gives (x m)) (fails OutOfRange)) (fails Uncertain)) e f
 
   came-out : (c : Came) → later R reference S fit ≡ outcome c
   came-out (unwhitened l w) = by-whitener (refused l) w

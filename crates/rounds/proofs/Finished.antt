@@ -38,10 +38,12 @@ module _ (mask dof : ℕ) (reference : ℤ) (fit : Fit) where
     finish-shows = ap (λ (x : List (List Float)). shown mask dof fit x time) C ∙ ap (inverted mask dof reference fit) e
 
     pub uncertain : certain c ≡ false → fails Uncertain ≡ finish mask dof reference fit
-    uncertain h = sym (ap (λ (t : Bool). cond t (cond (held time) (gives (fixOf mask dof fit c time)) (fails OutOfRange)) (fails Uncertain)) h) ∙ finish-shows
+    uncertain h = sym (ap (λ (t : Bool). cond t (cond (held time) (gives (fixOf mask dof fit c time)) (fails OutOfRange)) (fails Uncertain)) h)
+        ∙ finish-shows
 
     -- the covariance passes, and the transmit time is tested
-    timed : (b : Bool) → certain c ≡ true → held time ≡ b → cond b (gives (fixOf mask dof fit c time)) (fails OutOfRange) ≡ finish mask dof reference fit
+    timed : (b : Bool) → certain c ≡ true → held time ≡ b → cond b (gives (fixOf mask dof fit c time)) (fails OutOfRange)
+        ≡ finish mask dof reference fit
     timed b h k =
         sym (ap (λ (t : Bool). cond t (gives (fixOf mask dof fit c time)) (fails OutOfRange)) k)
         ∙ sym (ap (λ (t : Bool). cond t (cond (held time) (gives (fixOf mask dof fit c time)) (fails OutOfRange)) (fails Uncertain)) h) ∙ finish-shows
@@ -63,5 +65,6 @@ told-as : (o : Outcome Unpublished Fix) → told (asFinished o) ≡ o
 told-as (fails e) = refl
 told-as (gives x) = refl
 
-pub read-back : (r : Finished) (o : Outcome Unpublished Fix) (b : Bool) → r ≡ asFinished o → r .published ≡ b → cond b (gives (r .fix)) (fails (r .why)) ≡ o
+pub read-back : (r : Finished) (o : Outcome Unpublished Fix) (b : Bool) → r ≡ asFinished o → r .published ≡ b
+    → cond b (gives (r .fix)) (fails (r .why)) ≡ o
 read-back r o b e t = ap (λ (x : Bool). cond x (gives (r .fix)) (fails (r .why))) (sym t) ∙ ap told e ∙ told-as o

@@ -47,7 +47,8 @@ pub finish-fix
 unfolding finish
 finish-fix mask dof reference fit x e = go (cholesky (fit .information) 4 (replicate 16 nought)) e
   where
-    tests : (a b : Bool) (c : List (List Float)) (ps : ℤ) → cond a (cond b (gives (fixOf mask dof fit c ps)) (fails OutOfRange)) (fails Uncertain) ≡ gives x → x ≡ fixOf mask dof fit c ps
+    tests : (a b : Bool) (c : List (List Float)) (ps : ℤ) → cond a (cond b (gives (fixOf mask dof fit c ps)) (fails OutOfRange)) (fails Uncertain)
+        ≡ gives x → x ≡ fixOf mask dof fit c ps
     tests false b c ps q = absurd (let z : _≡_ {A = ℕ} 0 1 = cc in omega arith)
     tests true false c ps q = absurd (let z : _≡_ {A = ℕ} 0 1 = cc in omega arith)
     tests true true c ps q = cc
@@ -85,7 +86,8 @@ module _ (P : Problem) (N : P .n ≤ 32) (x : Fix) (h : Fixed (rounds P) (remain
   past = h .shown
 
   -- what the record shows is what was found
-  shown : {A : Type 0} (part : Fix → A) → part x ≡ part (fixOf (maskOf S (P .n)) (dofOf R S) f (covarianceBy (past .m)) (transmit (P .«reference_ps») f))
+  shown : {A : Type 0} (part : Fix → A) → part x ≡ part
+      (fixOf (maskOf S (P .n)) (dofOf R S) f (covarianceBy (past .m)) (transmit (P .«reference_ps») f))
   shown part = ap part (past .shows)
 
   within : (j : ℕ) → T (S j) → T (kept (rounds P) j)
@@ -144,14 +146,17 @@ module _ (P : Problem) (N : P .n ≤ 32) (x : Fix) (h : Fixed (rounds P) (remain
     enough = subst (λ (A : Subset). minimum (P .altitude) ≤ count A (P .n)) (sym uses) (h .settled .fitted .enough);
     screened = λ i j s t. kept-pass (P .time) (P .«site_mm») (P .n) i j s t;
     within = λ j t. subst (λ (r : Float). T (le r five)) (sym (residual-is j)) (h .settled .noneAbove j (below-n j (in-used j t)) (in-used j t));
-    beyond = λ j k t. subst (λ (r : Float). T (lt five r)) (sym (residual-is j)) (h .settled .unused j (kept-n j k) (and-both (kept (rounds P) j) (not (S j)) k (subst (λ (A : Subset). T (not (A j))) uses t)));
-    near = λ j t. subst (λ (p : List Float). T (le (range (P .site) p j) maxRangeM)) (sym ecef-is) (is-best .near j (below-n j (in-used j t)) (in-used j t));
+    beyond = λ j k t. subst (λ (r : Float). T (lt five r)) (sym (residual-is j))
+        (h .settled .unused j (kept-n j k) (and-both (kept (rounds P) j) (not (S j)) k (subst (λ (A : Subset). T (not (A j))) uses t)));
+    near = λ j t. subst (λ (p : List Float). T (le (range (P .site) p j) maxRangeM)) (sym ecef-is)
+        (is-best .near j (below-n j (in-used j t)) (in-used j t));
     placed = shown (λ y. y .position) ∙ ap fromEcef (sym ecef-is);
     height = subst (λ (q : Float). T (le minHeightM q) × T (le q maxHeightM)) (sym height-is) (flies .above, flies .below);
     freedom = shown (λ y. y .dof) ∙ ap (dofOf R) (sym uses);
     factor = l;
     whitened = ap (whitenerOver R) uses ∙ is-best .whitens;
-    consistent = subst (λ (q : Float × Float). T (not (lt (q .0) (q .1)))) (ap₂ (λ (u v : Float). (u, v)) (sym limit-is) (sym (shown (λ y. y .chi2)))) (past .informed .consistent .within);
+    consistent = subst (λ (q : Float × Float). T (not (lt (q .0) (q .1)))) (ap₂ (λ (u v : Float). (u, v)) (sym limit-is) (sym (shown (λ y. y .chi2))))
+        (past .informed .consistent .within);
     shows = (sym ecef-is, sym (shown (λ y. y .t)), sym (shown (λ y. y .chi2)));
     from = best-is .1;
     best = subst (λ (A : Subset). IsBest (chosenOver R A l) (startsOver R A (h .before)) f (best-is .1)) (sym uses) (is-best .best);

@@ -19,5 +19,6 @@ few S n l = omega (arith, count-le S n)
 pub picks : (S : Subset) (n : ℕ) → n ≤ 32 → (a : ℕ) → a < count S n → pick (subset n S) a < n
 picks S n l a h = lists S (replicate 32 0) n a l h .below
 
-pub subset-fits : (site z : List Float) (n : ℕ) (S : Subset) (g : Gathered) → g ≡ gathered site z n S → n ≤ 32 → (g .k ≤ 32) × ((a : ℕ) → a < g .k → pick (g .index) a < n)
+pub subset-fits : (site z : List Float) (n : ℕ) (S : Subset) (g : Gathered) → g ≡ gathered site z n S → n ≤ 32 → (g .k ≤ 32)
+    × ((a : ℕ) → a < g .k → pick (g .index) a < n)
 subset-fits site z n S g e l = subst (λ (x : Gathered). (x .k ≤ 32) × ((a : ℕ) → a < x .k → pick (x .index) a < n)) (sym e) (few S n l, picks S n l)

@@ -28,7 +28,8 @@ place-of (negsuc n) h = rw (le-ltb (2 ^ 63) (suc n) (omega arith)) refl
 
 -- the place of a number d later
 moved : (x d : ℤ) (u : ℕ) → pos u ≡ x +ℤ pos (2 ^ 63) → x +ℤ d +ℤ pos (2 ^ 63) ≡ pos u +ℤ d
-moved x d u e = +ℤ-assoc x d (pos (2 ^ 63)) ∙ ap (λ (z : ℤ). x +ℤ z) (+ℤ-comm d (pos (2 ^ 63))) ∙ sym (+ℤ-assoc x (pos (2 ^ 63)) d) ∙ ap (λ (z : ℤ). z +ℤ d) (sym e)
+moved x d u e = +ℤ-assoc x d (pos (2 ^ 63)) ∙ ap (λ (z : ℤ). x +ℤ z) (+ℤ-comm d (pos (2 ^ 63))) ∙ sym (+ℤ-assoc x (pos (2 ^ 63)) d)
+    ∙ ap (λ (z : ℤ). z +ℤ d) (sym e)
 
 -- less a number that is not above it
 less : (u m : ℕ) → m ≤ u → pos u +ℤ negℤ (pos m) ≡ pos (u - m)
@@ -44,7 +45,8 @@ at-place : (z : ℤ) (p : ℕ) → z +ℤ pos (2 ^ 63) ≡ pos p → z ≡ sub�
 at-place (pos a) p e = let q : a + 2 ^ 63 ≡ p = ap natAbs e in rw (le-ltb p (2 ^ 63) (omega arith)) (ap pos (omega arith))
 at-place (negsuc a) p e = go (ltb (2 ^ 63) (suc a)) (ltb-true (2 ^ 63) (suc a)) (ltb-false (2 ^ 63) (suc a)) e
   where
-    go : (t : Bool) → (t ≡ true → 2 ^ 63 < suc a) → (t ≡ false → suc a ≤ 2 ^ 63) → cond t (negsuc (suc a - suc (2 ^ 63))) (pos (2 ^ 63 - suc a)) ≡ pos p → negsuc a ≡ subℕ p (2 ^ 63)
+    go : (t : Bool) → (t ≡ true → 2 ^ 63 < suc a) → (t ≡ false → suc a ≤ 2 ^ 63) → cond t (negsuc (suc a - suc (2 ^ 63))) (pos (2 ^ 63 - suc a))
+        ≡ pos p → negsuc a ≡ subℕ p (2 ^ 63)
     go true h k q = absurd (let z : _≡_ {A = ℕ} 0 1 = cc in omega arith)
     go false h k q = let r : 2 ^ 63 - suc a ≡ p = ap natAbs q in let s = k refl in rw (lt-ltb p (2 ^ 63) (omega arith)) (ap negsuc (omega arith))
 
@@ -56,9 +58,11 @@ held-place (pos a) p e = let q : a + 2 ^ 63 ≡ p = ap natAbs e in go (ltb p (2 
     go false h k q = le-ltb a (2 ^ 63) (omega (arith, k refl))
 held-place (negsuc a) p e = go (ltb (2 ^ 63) (suc a)) (ltb-true (2 ^ 63) (suc a)) (ltb-false (2 ^ 63) (suc a)) e
   where
-    go : (t : Bool) → (t ≡ true → 2 ^ 63 < suc a) → (t ≡ false → suc a ≤ 2 ^ 63) → cond t (negsuc (suc a - suc (2 ^ 63))) (pos (2 ^ 63 - suc a)) ≡ pos p → ltb a (2 ^ 63) ≡ ltb p (2 ^ 64)
+    go : (t : Bool) → (t ≡ true → 2 ^ 63 < suc a) → (t ≡ false → suc a ≤ 2 ^ 63) → cond t (negsuc (suc a - suc (2 ^ 63))) (pos (2 ^ 63 - suc a))
+        ≡ pos p → ltb a (2 ^ 63) ≡ ltb p (2 ^ 64)
     go true h k q = absurd (let z : _≡_ {A = ℕ} 0 1 = cc in omega arith)
-    go false h k q = let r : 2 ^ 63 - suc a ≡ p = ap natAbs q in let s = k refl in lt-ltb a (2 ^ 63) (omega arith) ∙ sym (lt-ltb p (2 ^ 64) (omega arith))
+    go false h k q = let r : 2 ^ 63 - suc a ≡ p = ap natAbs q in let s = k refl in
+        lt-ltb a (2 ^ 63) (omega arith) ∙ sym (lt-ltb p (2 ^ 64) (omega arith))
 
 held-below : (z : ℤ) (q : ℕ) → z +ℤ pos (2 ^ 63) ≡ negsuc q → held z ≡ false
 held-below (pos a) q e = absurd (let z : _≡_ {A = ℕ} 0 1 = cc in omega arith)
@@ -74,16 +78,19 @@ minus-one-less zero = refl
 minus-one-less (suc k) = ap negsuc (omega arith)
 
 below-half : (p : ℕ) → p < 2 ^ 63 → negsuc 0 -ℤ toZ w64 (2 ^ 63 - 1 - p) ≡ negsuc (2 ^ 63 - suc p)
-below-half p h = ap (λ (z : ℤ). negsuc 0 -ℤ z) (toZ-pos w64 (2 ^ 63 - 1 - p) (omega arith)) ∙ minus-one-less (2 ^ 63 - 1 - p) ∙ ap negsuc (omega arith)
+below-half p h = ap (λ (z : ℤ). negsuc 0 -ℤ z) (toZ-pos w64 (2 ^ 63 - 1 - p) (omega arith)) ∙ minus-one-less (2 ^ 63 - 1 - p)
+    ∙ ap negsuc (omega arith)
 
 pub lower-fits : (p : ℕ) → p < 2 ^ 63 → SFits w64 (negsuc 0 -ℤ toZ w64 (2 ^ 63 - 1 - p))
 lower-fits p h = rw (below-half p h) (record { sfits = omega arith })
 
 pub lower-half : (p : ℕ) → p < 2 ^ 63 → toZ w64 (ofZ w64 (negsuc 0 -ℤ toZ w64 (2 ^ 63 - 1 - p))) ≡ subℕ p (2 ^ 63)
-lower-half p h = toZ-ofZ w64 (negsuc 0 -ℤ toZ w64 (2 ^ 63 - 1 - p)) (lower-fits p h) ∙ below-half p h ∙ sym (ap (λ (t : Bool). cond t (negsuc (2 ^ 63 - suc p)) (pos (p - 2 ^ 63))) (lt-ltb p (2 ^ 63) h))
+lower-half p h = toZ-ofZ w64 (negsuc 0 -ℤ toZ w64 (2 ^ 63 - 1 - p)) (lower-fits p h) ∙ below-half p h
+    ∙ sym (ap (λ (t : Bool). cond t (negsuc (2 ^ 63 - suc p)) (pos (p - 2 ^ 63))) (lt-ltb p (2 ^ 63) h))
 
 pub upper-half : (p : ℕ) → 2 ^ 63 ≤ p → p < 2 ^ 64 → toZ w64 (p - 2 ^ 63) ≡ subℕ p (2 ^ 63)
-upper-half p h l = toZ-pos w64 (p - 2 ^ 63) (omega arith) ∙ sym (ap (λ (t : Bool). cond t (negsuc (2 ^ 63 - suc p)) (pos (p - 2 ^ 63))) (le-ltb p (2 ^ 63) h))
+upper-half p h l = toZ-pos w64 (p - 2 ^ 63) (omega arith)
+    ∙ sym (ap (λ (t : Bool). cond t (negsuc (2 ^ 63 - suc p)) (pos (p - 2 ^ 63))) (le-ltb p (2 ^ 63) h))
 
 pub place-fits : (p : ℕ) → p < 2 ^ 64 → SFits w64 (subℕ p (2 ^ 63))
 place-fits p h = go (ltb p (2 ^ 63)) (ltb-false p (2 ^ 63))
@@ -185,7 +192,8 @@ cast-down (fin true m e) n h k =
 cast-down (fin false m e) n h k = absurd (omega (arith, down-pos e, ltb-false 0 (1 * down e + m * up e * 1) h))
 
 -- x ≤ -2 ^ 64
-pub cast-low : (x : Float) → ne x x ≡ false → lt minus-one x ≡ false → lt (neg x) word ≡ false → (k : ℕ) × (toSigned 127 x ≡ negℤ (pos k)) × (2 ^ 64 ≤ k)
+pub cast-low : (x : Float) → ne x x ≡ false → lt minus-one x ≡ false → lt (neg x) word ≡ false → (k : ℕ)
+    × (toSigned 127 x ≡ negℤ (pos k)) × (2 ^ 64 ≤ k)
 unfolding lt ne eq neg toSigned
 cast-low nan n h k = absurd (true≢false n)
 cast-low (inf true) n h k = (2 ^ 127, refl, room-below)
@@ -212,7 +220,8 @@ moment-beyond z r e h = go (held z) refl
 
 -- past 2 ^ 64 to either side no reference brings the sum back
 pub far-later : (x : ℤ) (k : ℕ) → mag x < 2 ^ 63 → 2 ^ 64 ≤ k → beyond ≡ momentOf (x +ℤ pos k)
-far-later x k f h = later-beyond x (natAbs (x -ℤ negsuc (2 ^ 63 - 1))) (place-of x f) k (le-trans h (le-add-left k (natAbs (x -ℤ negsuc (2 ^ 63 - 1)))))
+far-later x k f h = later-beyond x (natAbs (x -ℤ negsuc (2 ^ 63 - 1))) (place-of x f) k
+    (le-trans h (le-add-left k (natAbs (x -ℤ negsuc (2 ^ 63 - 1)))))
 
 pub far-earlier : (x : ℤ) (k : ℕ) → mag x < 2 ^ 63 → 2 ^ 64 ≤ k → beyond ≡ momentOf (x +ℤ negℤ (pos k))
 far-earlier x k f h = earlier-beyond x (natAbs (x -ℤ negsuc (2 ^ 63 - 1))) (place-of x f) k (lt-of-lt-of-le (place-lt x f) h)
@@ -222,9 +231,11 @@ far-earlier x k f h = earlier-beyond x (natAbs (x -ℤ negsuc (2 ^ 63 - 1))) (pl
     place-lt (negsuc n) f = rw (le-ltb (2 ^ 63) (suc n) (omega arith)) (omega arith)
 
 -- ---- the transmit time by its rounded picoseconds r, where the code's tests put it
-pub by-cast : (x z : ℤ) (t r : Float) (m : Moment) → r ≡ halfAway (t ⊘ # 0x41B1DE784A000000 ⊗ # 0x426D1A94A2000000) → toSigned 127 r ≡ z → m ≡ momentOf (x +ℤ z) → m ≡ momentOf (transmitPs x t)
+pub by-cast : (x z : ℤ) (t r : Float) (m : Moment) → r ≡ halfAway (t ⊘ # 0x41B1DE784A000000 ⊗ # 0x426D1A94A2000000) → toSigned 127 r ≡ z → m
+    ≡ momentOf (x +ℤ z) → m ≡ momentOf (transmitPs x t)
 unfolding transmitPs
-by-cast x z t r m R e h = h ∙ ap (λ (y : ℤ). momentOf (x +ℤ y)) (sym e ∙ ap (toSigned 127) (R ∙ ap₂ (λ (c s : Float). halfAway (t ⊘ c ⊗ s)) (sym light) (sym second)))
+by-cast x z t r m R e h = h ∙ ap (λ (y : ℤ). momentOf (x +ℤ y))
+    (sym e ∙ ap (toSigned 127) (R ∙ ap₂ (λ (c s : Float). halfAway (t ⊘ c ⊗ s)) (sym light) (sym second)))
 
 pub held-fits : (z : ℤ) → held z ≡ true → SFits w64 z
 held-fits (pos n) h = record { sfits = ltb-true n (2 ^ 63) h }

@@ -20,14 +20,20 @@ use Rattle.rounds.specs.declared.fitting.Gathered.{Gathered}
 use Rattle.rounds.specs.Solve.{gathered}
 
 module _ (R : Receptions) (S : Subset) (had : Bool) (previous : List Float) where
-  starts-are : (t : Bool) → startsAfter t previous (subsetSites (R .site) (R .n) S) (subsetZ (R .z) (R .n) S) (count S (R .n)) (R .altitude) ≡ startsOver R S (cond t (some previous) none)
+  starts-are : (t : Bool) → startsAfter t previous (subsetSites (R .site) (R .n) S) (subsetZ (R .z) (R .n) S) (count S (R .n)) (R .altitude)
+      ≡ startsOver R S (cond t (some previous) none)
   unfolding startsAfter
   starts-are true = refl
   starts-are false = refl
 
-  module _ (g : Gathered) (e : g ≡ gathered (R .site) (R .z) (R .n) S) (r : Points) (q : r ≡ packed empty (startsAfter had previous (g .sites) (g .z) (g .k) (R .altitude))) where
+  module _ (g : Gathered) (e : g ≡ gathered (R .site) (R .z) (R .n) S) (r : Points)
+      (q : r ≡ packed empty (startsAfter had previous (g .sites) (g .z) (g .k) (R .altitude))) where
     pub starts-few : r .n ≤ 18
-    starts-few = omega (arith, starts-count (g .sites) (g .z) (g .k) (R .altitude) had previous r q, starts-most (g .sites) (g .z) (g .k) (R .altitude) had previous)
+    starts-few = omega (
+      arith,
+      starts-count (g .sites) (g .z) (g .k) (R .altitude) had previous r q,
+      starts-most (g .sites) (g .z) (g .k) (R .altitude) had previous,
+    )
 
     abbrev fitsFrom : Gathered → List (List Float) → Outcome Unfit Fit
     fitsFrom x ps = bestFit (R .clock) (R .n) (R .noise) (x .index) (x .sites) (x .z) (x .k) (R .altitude) ps

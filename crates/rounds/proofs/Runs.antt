@@ -36,22 +36,27 @@ module _ (R : Receptions) (mask : ℕ) (reference : ℤ) (N : R .n ≤ 32) where
     pub answers : solved P ≡ roundsTo P j (has (s .included)) (before s)
     pub keeps : Within P (has (s .included))
 
-  left : (j : ℕ) (S : Subset) (p : Option (List Float)) (s : State) → has (s .included) ≡ S → before s ≡ p → solved P ≡ roundsTo P j S p → Within P S → Left j s
+  left : (j : ℕ) (S : Subset) (p : Option (List Float)) (s : State) → has (s .included) ≡ S → before s ≡ p → solved P ≡ roundsTo P j S p
+      → Within P S → Left j s
   left j S p s e q a w = record {
     answers = a ∙ ap₂ (λ (A : Subset) (o : Option (List Float)). roundsTo P j A o) (sym e) (sym q);
     keeps = subst (Within P) (sym e) w;
   }
 
-  pub left-start : (s : State) (c : ℕ) → s ≡ record { included = mask; had = false; previous = replicate 4 nought } → mask < 2 ^ R .n → c ≡ count (has mask) 32 → Left (2 * c + 2 - 0) s
+  pub left-start : (s : State) (c : ℕ) → s ≡ record { included = mask; had = false; previous = replicate 4 nought } → mask < 2 ^ R .n → c
+      ≡ count (has mask) 32 → Left (2 * c + 2 - 0) s
   unfolding solved
   left-start s c i m h =
       let t : count (kept P) (R .n) ≡ c = sym (count-within (R .n) mask m N) ∙ sym h in
       let d : 2 * survivors P + 2 ≡ 2 * c + 2 - 0 = omega (arith, t) in
-      left (2 * c + 2 - 0) (kept P) none s (ap (λ (x : State). has (x .included)) i) (ap before i) (ap (λ (j : ℕ). roundsTo P j (kept P) none) d) (λ j t. t)
+      left (2 * c + 2 - 0) (kept P) none s (ap (λ (x : State). has (x .included)) i) (ap before i)
+      (ap (λ (j : ℕ). roundsTo P j (kept P) none) d) (λ j t. t)
 
   -- ---- one round more
-  module _ (k cap : ℕ) (s : State) (t : Turn) (f : Fit) (E : stepOf t f ≡ round P (has (s .included)) (before s)) (K : k < cap) (I : Left (cap - k) s) where
-    next : (x : Step Fit) → x ≡ round P (has (s .included)) (before s) → solved P ≡ after P (λ S q. roundsTo P (cap - (k + 1)) S q) (has (s .included)) x
+  module _ (k cap : ℕ) (s : State) (t : Turn) (f : Fit) (E : stepOf t f ≡ round P (has (s .included)) (before s)) (K : k < cap)
+      (I : Left (cap - k) s) where
+    next : (x : Step Fit) → x ≡ round P (has (s .included)) (before s) → solved P
+        ≡ after P (λ S q. roundsTo P (cap - (k + 1)) S q) (has (s .included)) x
     unfolding roundsTo
     next x e =
         I .answers ∙ ap (λ (j : ℕ). roundsTo P j (has (s .included)) (before s)) (let d : cap - k ≡ suc (cap - (k + 1)) = omega arith in d)
@@ -70,7 +75,8 @@ module _ (R : Receptions) (mask : ℕ) (reference : ℤ) (N : R .n ≤ 32) where
     left-changes m e u i =
         let step = told-by (Changes m) e in
         left (cap - (k + 1)) (has m) (some (f .params)) u (ap (λ (x : State). has (x .included)) i) (ap before i) (next (changes (has m) f) step)
-        (change-within P (subst (Says P (has (s .included)) (before s)) (sym step) (round-says P (has (s .included)) (before s) (I .keeps))) (I .keeps))
+        (change-within P (subst (Says P (has (s .included)) (before s)) (sym step)
+        (round-says P (has (s .included)) (before s) (I .keeps))) (I .keeps))
 
   pub left-never : (k cap : ℕ) (s : State) → cap ≤ k → Left (cap - k) s → noFixedPoint ≡ solved P
   unfolding roundsTo

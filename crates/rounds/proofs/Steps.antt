@@ -18,7 +18,8 @@ use Rattle.rounds.specs.Setting.{Setting, kept}
 use Rattle.rounds.specs.Rounds.{Step, ends, changes, settles, above, greater, worst, near, less, least, noNumber, turned, decided, begun, round}
 use Rattle.rounds.specs.Rounds as rounds
 use Rattle.rounds.specs.Demand.{Fitted, Change, removal, return, Settled, Ends, few, unfit, unnumbered}
-use Rattle.rounds.proofs.Choices.{Within, Numbers, IsWorst, IsLeast, worst-is, least-is, worst-none, none-worst, worst-some, some-worst, least-none, none-least, least-some, some-least}
+use Rattle.rounds.proofs.Choices.{Within, Numbers, IsWorst, IsLeast, worst-is, least-is, worst-none, none-worst, worst-some, some-worst}
+use Rattle.rounds.proofs.Choices.{least-none, none-least, least-some, some-least}
 
 -- two sets that are alike to a third
 alike : (S S′ : Subset) (A : ℕ → Type 0) → ((j : ℕ) → T (S j) ↔ A j) → ((j : ℕ) → T (S′ j) ↔ A j) → S ≡ S′
@@ -41,7 +42,8 @@ module _ {Q F X : Type 0} (P : Setting Q F X) where
       (s .0, s .1, and-l (kept P (s .0)) (isNan (P .residual f (s .0))) (s .2), and-r (kept P (s .0)) (isNan (P .residual f (s .0))) (s .2))
 
   some-lacks : (f : F) (j : ℕ) → j < P .n → T (kept P j) → T (isNan (P .residual f j)) → T (lacks f)
-  some-lacks f j l k t = lt→ltb 0 (count (noNumber (kept P) (P .residual f)) (P .n)) (count-pos (noNumber (kept P) (P .residual f)) (P .n) j l (and-both (kept P j) (isNan (P .residual f j)) k t))
+  some-lacks f j l k t = lt→ltb 0 (count (noNumber (kept P) (P .residual f)) (P .n))
+      (count-pos (noNumber (kept P) (P .residual f)) (P .n) j l (and-both (kept P j) (isNan (P .residual f j)) k t))
 
   all-numbers : (f : F) → T (not (lacks f)) → Numbers P f
   all-numbers f h j l k = not-T (isNan (P .residual f j)) (λ t. T-not (lacks f) h (some-lacks f j l k t))
@@ -51,7 +53,8 @@ module _ {Q F X : Type 0} (P : Setting Q F X) where
 
   -- ---- the computation's round is one of demand 3
   module _ (S : Subset) (p : Option Q) (W : Within P S) where
-    turned-says : (f : F) → P .minimum ≤ count S (P .n) → P .bestFit S p ≡ gives f → (b : Bool) → lacks f ≡ b → (w : Option ℕ) → IsWorst P S f w → (l : Option ℕ) → IsLeast P S f l → Says S p (turned S f b w l)
+    turned-says : (f : F) → P .minimum ≤ count S (P .n) → P .bestFit S p ≡ gives f → (b : Bool) → lacks f ≡ b → (w : Option ℕ) → IsWorst P S f w
+        → (l : Option ℕ) → IsLeast P S f l → Says S p (turned S f b w l)
     turned-says f m e true u w ww l ll = let s = lacks-some f (eq→T u) in unnumbered f (s .0) (s .1) m e (s .2) (s .3) refl
     turned-says f m e false u (some i) ww l ll =
         let N = all-numbers f (eq→F u) in
@@ -67,7 +70,8 @@ module _ {Q F X : Type 0} (P : Setting Q F X) where
     unfolding decided
     begun-says true b o e = few (ltb→lt (count S (P .n)) (P .minimum) (eq→T b)) refl
     begun-says false b (fails x) e = unfit x (nltb→le (count S (P .n)) (P .minimum) (eq→F b)) e refl
-    begun-says false b (gives f) e = turned-says f (nltb→le (count S (P .n)) (P .minimum) (eq→F b)) e (lacks f) refl (worst S (P .residual f) (P .n)) (worst-is P S f) (least (kept P) S (P .residual f) (P .n)) (least-is P S f)
+    begun-says false b (gives f) e = turned-says f (nltb→le (count S (P .n)) (P .minimum) (eq→F b)) e (lacks f) refl (worst S (P .residual f) (P .n))
+        (worst-is P S f) (least (kept P) S (P .residual f) (P .n)) (least-is P S f)
 
     pub round-says : Says S p (round P S p)
     unfolding round
@@ -77,10 +81,12 @@ module _ {Q F X : Type 0} (P : Setting Q F X) where
   module _ (S : Subset) (p : Option Q) where
     begun-enough : (o : Outcome Unfit F) → P .minimum ≤ count S (P .n) → P .bestFit S p ≡ o → round P S p ≡ begun P S false o
     unfolding round
-    begun-enough o m e = ap₂ (λ (b : Bool) (x : Outcome Unfit F). begun P S b x) (F→eq (ltb (count S (P .n)) (P .minimum)) (le→nltb (count S (P .n)) (P .minimum) m)) e
+    begun-enough o m e = ap₂ (λ (b : Bool) (x : Outcome Unfit F). begun P S b x)
+        (F→eq (ltb (count S (P .n)) (P .minimum)) (le→nltb (count S (P .n)) (P .minimum) m)) e
 
     -- a round with the best fit f, by whether a residual is not a number, and the choices
-    begun-turned : (f : F) → P .minimum ≤ count S (P .n) → P .bestFit S p ≡ gives f → (b : Bool) → lacks f ≡ b → (w l : Option ℕ) → worst S (P .residual f) (P .n) ≡ w → least (kept P) S (P .residual f) (P .n) ≡ l → round P S p ≡ turned S f b w l
+    begun-turned : (f : F) → P .minimum ≤ count S (P .n) → P .bestFit S p ≡ gives f → (b : Bool) → lacks f ≡ b → (w l : Option ℕ)
+        → worst S (P .residual f) (P .n) ≡ w → least (kept P) S (P .residual f) (P .n) ≡ l → round P S p ≡ turned S f b w l
     unfolding decided
     begun-turned f m h b u w l e d =
         begun-enough (gives f) m h
@@ -92,17 +98,21 @@ module _ {Q F X : Type 0} (P : Setting Q F X) where
       one-worst f o h = choice-unique (above S (P .residual f)) (greater (P .residual f)) (P .n) (worst S (P .residual f) (P .n)) o (worst-is P S f) h
 
       one-least : (f : F) (o : Option ℕ) → IsLeast P S f o → least (kept P) S (P .residual f) (P .n) ≡ o
-      one-least f o h = choice-unique (near (kept P) S (P .residual f)) (less (P .residual f)) (P .n) (least (kept P) S (P .residual f) (P .n)) o (least-is P S f) h
+      one-least f o h = choice-unique (near (kept P) S (P .residual f)) (less (P .residual f)) (P .n) (least (kept P) S (P .residual f) (P .n)) o
+          (least-is P S f) h
 
-      fitted-turned : (f : F) → Fitted P S p f → (w l : Option ℕ) → IsWorst P S f w → least (kept P) S (P .residual f) (P .n) ≡ l → round P S p ≡ turned S f false w l
+      fitted-turned : (f : F) → Fitted P S p f → (w l : Option ℕ) → IsWorst P S f w → least (kept P) S (P .residual f) (P .n) ≡ l → round P S p
+          ≡ turned S f false w l
       fitted-turned f h w l e d = begun-turned f (h .enough) (h .best) false (F→eq (lacks f) (numbers-all f (h .numbers))) w l (one-worst f w e) d
 
       pub says-round : (x : Step F) → Says S p x → round P S p ≡ x
       unfolding round
       says-round (ends e) (few h q) =
-          ap (λ (b : Bool). begun P S b (P .bestFit S p)) (T→eq (ltb (count S (P .n)) (P .minimum)) (lt→ltb (count S (P .n)) (P .minimum) h)) ∙ ap ends (sym q)
+          ap (λ (b : Bool). begun P S b (P .bestFit S p))
+          (T→eq (ltb (count S (P .n)) (P .minimum)) (lt→ltb (count S (P .n)) (P .minimum) h)) ∙ ap ends (sym q)
       says-round (ends e) (unfit u m h q) = begun-enough (fails u) m h ∙ ap ends (sym q)
-      says-round (ends e) (unnumbered f j l m h k t q) = begun-turned f m h true (T→eq (lacks f) (some-lacks f j l k t)) _ _ refl refl ∙ ap ends (sym q)
+      says-round (ends e) (unnumbered f j l m h k t q) =
+          begun-turned f m h true (T→eq (lacks f) (some-lacks f j l k t)) _ _ refl refl ∙ ap ends (sym q)
       says-round (changes R f) (removal i h w g) =
           fitted-turned f h (some i) (least (kept P) S (P .residual f) (P .n)) (some-worst P S f W (h .numbers) i w) refl
           ∙ ap (λ (A : Subset). changes A f) (alike (without S i) R (λ j. T (S j) × (j ≢ i)) (in-without S i) g)
@@ -110,4 +120,5 @@ module _ {Q F X : Type 0} (P : Setting Q F X) where
           fitted-turned f h none (some i) (none-worst P S f W (h .numbers) a) (one-least f (some i) (some-least P S f W (h .numbers) i l))
           ∙ ap (λ (A : Subset). changes A f) (alike (joined S i) R (λ j. T (S j) ⊎ (j ≡ i)) (in-joined S i) g)
       says-round (settles f) h =
-          fitted-turned f (h .fitted) none none (none-worst P S f W (h .fitted .numbers) (h .noneAbove)) (one-least f none (none-least P S f W (h .fitted .numbers) (h .unused)))
+          fitted-turned f (h .fitted) none none (none-worst P S f W (h .fitted .numbers) (h .noneAbove))
+          (one-least f none (none-least P S f W (h .fitted .numbers) (h .unused)))

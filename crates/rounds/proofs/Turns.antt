@@ -42,7 +42,8 @@ pub best-place : (o : Outcome Unfit Fit) (b : BestAt) → b ≡ asBestAt o → b
 best-place (fails e) b h t = absurd (subst T (sym t ∙ ap (λ (x : BestAt). x .best .found) h) tt)
 best-place (gives f) b h t = ap (λ (x : BestAt). x .place) h ∙ ap (λ (x : BestAt). fromEcef (position (x .best .fit .params))) (sym h)
 
-module _ (R : Receptions) (K : ℕ) (reference : ℤ) (N : R .n ≤ 32) (mask : ℕ) (M : mask < 2 ^ R .n) (p : Option (List Float)) (c : ℕ) (C : c ≡ count (has mask) 32) where
+module _ (R : Receptions) (K : ℕ) (reference : ℤ) (N : R .n ≤ 32) (mask : ℕ) (M : mask < 2 ^ R .n) (p : Option (List Float)) (c : ℕ)
+    (C : c ≡ count (has mask) 32) where
   abbrev P : Setting (List Float) Fit Fix
   P = settingOf R (has K) reference
 
@@ -53,11 +54,13 @@ module _ (R : Receptions) (K : ℕ) (reference : ℤ) (N : R .n ≤ 32) (mask : 
   unfolding round
   round-few h =
       ap (λ (k : ℕ). ends (TooFew k)) counted
-      ∙ sym (ap (λ (b : Bool). begun P (has mask) b (P .bestFit (has mask) p)) (lt-ltb (count (has mask) (R .n)) (minimum (R .altitude)) (subst (λ (k : ℕ). k < minimum (R .altitude)) counted h)))
+      ∙ sym (ap (λ (b : Bool). begun P (has mask) b (P .bestFit (has mask) p))
+      (lt-ltb (count (has mask) (R .n)) (minimum (R .altitude)) (subst (λ (k : ℕ). k < minimum (R .altitude)) counted h)))
 
   enough : minimum (R .altitude) ≤ c → (o : Outcome Unfit Fit) → o ≡ P .bestFit (has mask) p → begun P (has mask) false o ≡ round P (has mask) p
   unfolding round
-  enough h o e = sym (ap₂ (λ (b : Bool) (q : Outcome Unfit Fit). begun P (has mask) b q) (le-ltb (count (has mask) (R .n)) (minimum (R .altitude)) (subst (λ (k : ℕ). minimum (R .altitude) ≤ k) counted h)) (sym e))
+  enough h o e = sym (ap₂ (λ (b : Bool) (q : Outcome Unfit Fit). begun P (has mask) b q)
+      (le-ltb (count (has mask) (R .n)) (minimum (R .altitude)) (subst (λ (k : ℕ). minimum (R .altitude) ≤ k) counted h)) (sym e))
 
   module _ (h : minimum (R .altitude) ≤ c) (b : Best) (B : b ≡ asBest (bestFitOver R (has mask) p)) where
     met : (t : Bool) → b .found ≡ t → cond t (gives (b .fit)) (fails (b .why)) ≡ P .bestFit (has mask) p

@@ -29,7 +29,8 @@ use Rattle.record.specs.declared.content.Fix.{Fix}
 use Rattle.rounds.specs.declared.answer.Refusal.{Refusal}
 use Rattle.rounds.specs.declared.answer.Refusal.the-variants.{TooFew, Singular}
 use Rattle.rounds.specs.declared.finish.Unpublished.{Unpublished}
-use Rattle.rounds.specs.Setting.{ofUnfit, ofUnpublished, Answer, fix, refused, noFixedPoint, Setting, five, kept, survivors}
+use Rattle.rounds.specs.Setting.{ofUnfit, ofUnpublished, Answer, fix, refused, noFixedPoint, Setting, five, kept}
+use Rattle.rounds.specs.Setting.{survivors}
 use Rattle.rounds.specs.Solve.{limitAt, normalised, dofOf, settingAt, solveProblem}
 use Rattle.rounds.specs.Later.{Published, Withheld}
 
@@ -41,7 +42,8 @@ module _ {Q F X : Type 0} (P : Setting Q F X) where
     pub best : P .bestFit S p ≡ gives f
     pub numbers : (j : ℕ) → j < P .n → T (kept P j) → T (not (isNan (P .residual f j)))
 
-  -- i is the worst included one, and above 5: no other is greater, and each before it is less. "Ties go to the lowest index."
+  -- i is the worst included one, and above 5: no other is greater, and each before it is less. "Ties go to the lowest
+  -- index."
   abbrev pub Worst : Subset → F → ℕ → Type 0
   Worst S f i = FirstBest S (λ j k. lt (P .residual f k) (P .residual f j)) (P .n) i × T (lt five (P .residual f i))
 
@@ -55,14 +57,16 @@ module _ {Q F X : Type 0} (P : Setting Q F X) where
 
   -- i is the least left-out one, and not above 5: no other is less, and each before it is greater
   abbrev pub Least : Subset → F → ℕ → Type 0
-  Least S f i = FirstBest (leftOut S) (λ j k. lt (P .residual f j) (P .residual f k)) (P .n) i × T (le (P .residual f i) five)
+  Least S f i = FirstBest (leftOut S) (λ j k. lt (P .residual f j) (P .residual f k)) (P .n) i
+      × T (le (P .residual f i) five)
 
   -- "Either is a change": S becomes S′, at the best fit f
   pub data Change (S : Subset) (p : Option Q) (S′ : Subset) (f : F) : Type 0 where
     -- "If an included one is above 5, the greatest goes out."
     removal : (i : ℕ) → Fitted S p f → Worst S f i → ((j : ℕ) → T (S′ j) ↔ (T (S j) × (j ≢ i))) → Change S p S′ f
     -- "Otherwise, if a left-out one is not above 5, the least comes back."
-    return : (i : ℕ) → Fitted S p f → NoneAbove S f → Least S f i → ((j : ℕ) → T (S′ j) ↔ (T (S j) ⊎ (j ≡ i))) → Change S p S′ f
+    return : (i : ℕ) → Fitted S p f → NoneAbove S f → Least S f i
+        → ((j : ℕ) → T (S′ j) ↔ (T (S j) ⊎ (j ≡ i))) → Change S p S′ f
 
   -- "With neither, the rounds are settled"
   pub record Settled (S : Subset) (p : Option Q) (f : F) : Type 0 where
@@ -70,17 +74,20 @@ module _ {Q F X : Type 0} (P : Setting Q F X) where
     pub noneAbove : NoneAbove S f
     pub unused : (j : ℕ) → j < P .n → T (leftOut S j) → T (lt five (P .residual f j))
 
-  -- "A refusal met on the way, as for too few when a round begins or for a residual that is not a number, ends the solve, and that round makes no change."
+  -- "A refusal met on the way, as for too few when a round begins or for a residual that is not a number, ends the
+  -- solve, and that round makes no change."
   pub data Ends (S : Subset) (p : Option Q) (e : Refusal) : Type 0 where
     few : count S (P .n) < P .minimum → e ≡ TooFew (count S (P .n)) → Ends S p e
     unfit : (u : Unfit) → P .minimum ≤ count S (P .n) → P .bestFit S p ≡ fails u → e ≡ ofUnfit u → Ends S p e
-    unnumbered : (f : F) (j : ℕ) → j < P .n → P .minimum ≤ count S (P .n) → P .bestFit S p ≡ gives f → T (kept P j) → T (isNan (P .residual f j)) → e ≡ Singular → Ends S p e
+    unnumbered : (f : F) (j : ℕ) → j < P .n → P .minimum ≤ count S (P .n) → P .bestFit S p ≡ gives f → T (kept P j)
+        → T (isNan (P .residual f j)) → e ≡ Singular → Ends S p e
 
   -- ---- the rounds
   -- k rounds, each of which makes a change, lead from S, after p, to E, after q
   pub data Chain (E : Subset) (q : Option Q) : ℕ → Subset → Option Q → Type 0 where
     start : Chain E q zero E q
-    then : {k : ℕ} {S S′ : Subset} {p : Option Q} {f : F} → Change S p S′ f → Chain E q k S′ (some (P .params f)) → Chain E q (suc k) S p
+    then : {k : ℕ} {S S′ : Subset} {p : Option Q} {f : F} → Change S p S′ f → Chain E q k S′ (some (P .params f))
+        → Chain E q (suc k) S p
 
   -- from all kept receptions, at most 2s + 1 changes lead to E, after q
   pub record InTime (E : Subset) (q : Option Q) : Type 0 where
@@ -107,7 +114,8 @@ module _ {Q F X : Type 0} (P : Setting Q F X) (L : Remaining F X) where
   -- in time, a refusal ends a round, or the rounds settle and one of the remaining steps refuses
   pub data Refused (e : Refusal) : Type 0 where
     early : (S : Subset) (p : Option Q) → InTime P S p → Ends P S p e → Refused e
-    late : (S : Subset) (p : Option Q) (f : F) (u : Unpublished) → InTime P S p → Settled P S p f → L .Withholds S f u → e ≡ ofUnpublished u → Refused e
+    late : (S : Subset) (p : Option Q) (f : F) (u : Unpublished) → InTime P S p → Settled P S p f → L .Withholds S f u
+        → e ≡ ofUnpublished u → Refused e
 
   -- "Demand 3 is a single claim about the whole chain of rounds and its answer": each answer is given exactly when
   pub record Claim (a : Answer X) : Type 0 where
@@ -128,7 +136,10 @@ module _ (P : Problem) where
 
   -- its remaining steps, by specs/Later.antt
   abbrev pub remaining : Remaining Fit Fix
-  remaining = record { Shows = Published (receptionsOf P) (P .«reference_ps»); Withholds = Withheld (receptionsOf P) (P .«reference_ps») }
+  remaining = record {
+    Shows = Published (receptionsOf P) (P .«reference_ps»);
+    Withholds = Withheld (receptionsOf P) (P .«reference_ps»);
+  }
 
   -- the used receptions by the mask, and the parameters, which are the position and T
   abbrev pub usedBy : Fix → Subset
@@ -145,10 +156,12 @@ module _ (P : Problem) where
     pub enough : minimum (P .altitude) ≤ count (usedBy x) (P .n)
     -- each two kept ones pass the screen
     pub screened : (i j : ℕ) → T (kept rounds i) → T (kept rounds j)
-        → T (pair.passes (pair.gap (pair.timeAt (P .time) i) (pair.timeAt (P .time) j)) (pair.baseline (pair.siteAt (P .«site_mm») i) (pair.siteAt (P .«site_mm») j)))
+        → T (pair.passes (pair.gap (pair.timeAt (P .time) i) (pair.timeAt (P .time) j))
+        (pair.baseline (pair.siteAt (P .«site_mm») i) (pair.siteAt (P .«site_mm») j)))
     -- every used normalised residual is at most 5, every kept but unused one above 5
     pub within : (j : ℕ) → T (usedBy x j) → T (le (normalised (receptionsOf P) (paramsBy x) j) five)
-    pub beyond : (j : ℕ) → T (kept rounds j) → T (not (usedBy x j)) → T (lt five (normalised (receptionsOf P) (paramsBy x) j))
+    pub beyond : (j : ℕ) → T (kept rounds j) → T (not (usedBy x j))
+        → T (lt five (normalised (receptionsOf P) (paramsBy x) j))
     -- used ranges are at most 600,000 m
     pub near : (j : ℕ) → T (usedBy x j) → T (le (range (P .site) (x .ecef) j) maxRangeM)
     -- the position is that of the ECEF, and its height from -1,500 to 25,000 m
@@ -159,12 +172,15 @@ module _ (P : Problem) where
     -- chi-square is not above `published_chi2_limit`
     pub factor : List Float
     pub whitened : whitenerOver (receptionsOf P) (usedBy x) ≡ found factor
-    pub consistent : T (not (lt (limitAt (chosenOver (receptionsOf P) (usedBy x) factor) (x .dof) (paramsBy x)) (x .chi2)))
-    -- the best fit is the one that the record shows. Of the fits from all starts of the last round it leads: it converged
-    -- and is plausible, none that is costs less, each such one from an earlier start costs more; and none is its rival.
+    pub consistent : T (not (lt (limitAt (chosenOver (receptionsOf P) (usedBy x) factor) (x .dof)
+        (paramsBy x)) (x .chi2)))
+    -- the best fit is the one that the record shows. Of the fits from all starts of the last round it leads: it
+    -- converged and is plausible, none that is costs less, each such one from an earlier start costs more; and none is
+    -- its rival.
     pub shows : (position (h .best .params) ≡ x .ecef) × (moment (h .best .params) ≡ x .t) × (h .best .cost ≡ x .chi2)
     pub from : ℕ
-    pub best : IsBest (chosenOver (receptionsOf P) (usedBy x) factor) (startsOver (receptionsOf P) (usedBy x) (h .before)) (h .best) from
+    pub best : IsBest (chosenOver (receptionsOf P) (usedBy x) factor)
+        (startsOver (receptionsOf P) (usedBy x) (h .before)) (h .best) from
 
   -- demand 3, of the answer a
   pub record Demand (a : Answer Fix) : Type 0 where

@@ -55,10 +55,12 @@ definite (refused l) = false
 unfoldable pub certain : List (List Float) → Bool
 unfolding wide
 certain c =
-    let check = entry c 0 0 ∷ entry c 0 1 ∷ entry c 0 2 ∷ entry c 1 0 ∷ entry c 1 1 ∷ entry c 1 2 ∷ entry c 2 0 ∷ entry c 2 1 ∷ entry c 2 2 ∷ [] in
+    let check = entry c 0 0 ∷ entry c 0 1 ∷ entry c 0 2 ∷ entry c 1 0 ∷ entry c 1 1 ∷ entry c 1 2 ∷ entry c 2 0 ∷ entry
+    c 2 1 ∷ entry c 2 2 ∷ [] in
     not (wide c) && definite (cholesky check 3 (replicate 9 nought))
 
--- what a fix shows: the mask and the degrees of freedom of the used receptions, the fit, its covariance, and the transmit time
+-- what a fix shows: the mask and the degrees of freedom of the used receptions, the fit, its covariance, and the
+-- transmit time
 abbrev pub fixOf : ℕ → ℕ → Fit → List (List Float) → ℤ → Fix
 fixOf mask dof fit c ps = record {
   mask = mask;
@@ -75,10 +77,12 @@ fixOf mask dof fit c ps = record {
 
 -- the tests of the covariance, then of the transmit time
 abbrev pub shown : ℕ → ℕ → Fit → List (List Float) → ℤ → Outcome Unpublished Fix
-shown mask dof fit c ps = cond (certain c) (cond (held ps) (gives (fixOf mask dof fit c ps)) (fails OutOfRange)) (fails Uncertain)
+shown mask dof fit c ps = cond (certain c)
+    (cond (held ps) (gives (fixOf mask dof fit c ps)) (fails OutOfRange)) (fails Uncertain)
 
 abbrev pub inverted : ℕ → ℕ → ℤ → Fit → Factor → Outcome Unpublished Fix
-inverted mask dof reference fit (found l) = shown mask dof fit (published (inverse l 4 (replicate 16 nought))) (transmitPs reference (moment (fit .params)))
+inverted mask dof reference fit (found l) =
+    shown mask dof fit (published (inverse l 4 (replicate 16 nought))) (transmitPs reference (moment (fit .params)))
 inverted mask dof reference fit (refused l) = fails Singular
 
 -- `finish`
@@ -92,7 +96,18 @@ finish mask dof reference fit = inverted mask dof reference fit (cholesky (fit .
 abbrev pub nothing : Fix
 nothing =
     let none = replicate 3 nought in
-    record { mask = 0; dof = 0; ecef = none; t = nought; position = record { «lat_deg» = nought; «lon_deg» = nought; «height_m» = nought }; «transmit_ps» = pos 0; r0 = none; r1 = none; r2 = none; chi2 = nought }
+    record {
+      mask = 0;
+      dof = 0;
+      ecef = none;
+      t = nought;
+      position = record { «lat_deg» = nought; «lon_deg» = nought; «height_m» = nought };
+      «transmit_ps» = pos 0;
+      r0 = none;
+      r1 = none;
+      r2 = none;
+      chi2 = nought;
+    }
 
 -- beside a refusal stands no fix, and beside a fix a refusal that means nothing
 abbrev pub asFinished : Outcome Unpublished Fix → Finished

@@ -84,8 +84,9 @@ module _ (R : Receptions) (reference : ℤ) (S : Subset) (fit : Fit) where
     pub inI64 : T (held (transmit reference fit))
     pub shows : x ≡ fixOf (maskOf S (R .n)) (dofOf R S) fit (covarianceBy m) (transmit reference fit)
 
-  -- it is withheld: 6, "a Cholesky of covariance or final information fails"; 5, "chi2 above `published_chi2_limit`"; 9,
-  -- "a variance above 1,500², or the 3 × 3 Cholesky fails"; 3, "the transmit time leaves i64". Each after the tests before it.
+  -- it is withheld: 6, "a Cholesky of covariance or final information fails"; 5, "chi2 above `published_chi2_limit`";
+  -- 9, "a variance above 1,500², or the 3 × 3 Cholesky fails"; 3, "the transmit time leaves i64". Each after the tests
+  -- before it.
   abbrev pub Withheld : Unpublished → Type 0
   Withheld Singular =
       ((l : List Float) × (whitenerOver R S ≡ refused l))
@@ -93,4 +94,5 @@ module _ (R : Receptions) (reference : ℤ) (S : Subset) (fit : Fit) where
   Withheld Inconsistent = (l : List Float) × (whitenerOver R S ≡ found l) × T (lt (limitBy l) (fit .cost))
   Withheld Uncertain = (l : List Float) × (m : List Float) × Informed l m × TooWide (covarianceBy m)
   Withheld OutOfRange =
-      (l : List Float) × (m : List Float) × Informed l m × Certain (covarianceBy m) × T (not (held (transmit reference fit)))
+      (l : List Float) × (m : List Float) × Informed l m × Certain (covarianceBy m)
+      × T (not (held (transmit reference fit)))

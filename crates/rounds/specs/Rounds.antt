@@ -11,7 +11,8 @@ use Rattle.best.specs.Best.{Outcome, fails, gives}
 use Rattle.rounds.specs.declared.answer.Refusal.{Refusal}
 use Rattle.rounds.specs.declared.answer.Refusal.the-variants.{TooFew, Singular}
 use Rattle.rounds.specs.declared.finish.Unpublished.{Unpublished}
-use Rattle.rounds.specs.Setting.{ofUnfit, ofUnpublished, Answer, fix, refused, noFixedPoint, Setting, five, kept, survivors}
+use Rattle.rounds.specs.Setting.{ofUnfit, ofUnpublished, Answer, fix, refused, noFixedPoint, Setting, five, kept}
+use Rattle.rounds.specs.Setting.{survivors}
 
 -- ---- the outlier rule: K are kept and S included, of n receptions with the normalised residuals z
 

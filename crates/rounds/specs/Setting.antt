@@ -8,11 +8,13 @@ use Rattle.best.specs.declared.Unfit.{Unfit}
 use Rattle.best.specs.declared.Unfit.the-variants as unfit
 use Rattle.best.specs.Best.{Outcome}
 use Rattle.rounds.specs.declared.answer.Refusal.{Refusal}
-use Rattle.rounds.specs.declared.answer.Refusal.the-variants.{NoConvergence, OutOfRange, Inconsistent, Singular, Ambiguous, Uncertain}
+use Rattle.rounds.specs.declared.answer.Refusal.the-variants.{NoConvergence, OutOfRange, Inconsistent, Singular}
+use Rattle.rounds.specs.declared.answer.Refusal.the-variants.{Ambiguous, Uncertain}
 use Rattle.rounds.specs.declared.finish.Unpublished.{Unpublished}
 use Rattle.rounds.specs.declared.finish.Unpublished.the-variants as unpublished
 
--- Document 01, 'When there is no fix': the refusal by what a best fit meets, and by what the steps after the rounds meet
+-- Document 01, 'When there is no fix': the refusal by what a best fit meets, and by what the steps after the rounds
+-- meet
 abbrev pub ofUnfit : Unfit → Refusal
 ofUnfit unfit.NoConvergence = NoConvergence
 ofUnfit unfit.OutOfRange = OutOfRange

@@ -21,12 +21,14 @@ use Rattle.whitening.specs.Whitened.{Chosen, residual, whitened}
 use Rattle.limits.specs.Limits.{dof, roundingNorm, publishedChi2Limit}
 use Rattle.damped.specs.declared.Fit.{Fit}
 use Rattle.best.specs.Best.{Outcome, fails}
-use Rattle.best.specs.OfProblem.{Receptions, receptionsOf, subset, subsetSites, subsetZ, whitenerOver, chosenOver, bestFitOver}
+use Rattle.best.specs.OfProblem.{Receptions, receptionsOf, subset, subsetSites, subsetZ, whitenerOver, chosenOver}
+use Rattle.best.specs.OfProblem.{bestFitOver}
 use Rattle.record.specs.declared.content.Fix.{Fix}
 use Rattle.rounds.specs.declared.answer.Answer as code
 use Rattle.rounds.specs.declared.answer.Case.the-variants as case
 use Rattle.rounds.specs.declared.answer.Refusal.{Refusal}
-use Rattle.rounds.specs.declared.answer.Refusal.the-variants.{TooFew, NoConvergence, OutOfRange, Inconsistent, Singular, Ambiguous, Uncertain}
+use Rattle.rounds.specs.declared.answer.Refusal.the-variants.{TooFew, NoConvergence, OutOfRange, Inconsistent}
+use Rattle.rounds.specs.declared.answer.Refusal.the-variants.{Singular, Ambiguous, Uncertain}
 use Rattle.rounds.specs.declared.finish.Unpublished.{Unpublished}
 use Rattle.rounds.specs.declared.finish.Unpublished.the-variants as unpublished
 use Rattle.rounds.specs.declared.fitting.Gathered.{Gathered}
@@ -44,7 +46,8 @@ hasAltitude (Gnss metres) = true
 
 -- the limit of chi-square for so many degrees of freedom, of chosen receptions at some parameters
 unfoldable pub limitAt : Chosen → ℕ → List Float → Float
-limitAt C dof params = let w = whitened C params in publishedChi2Limit dof (roundingNorm (w .a) (w .b) (w .c) (w .d) (w .count))
+limitAt C dof params = let w = whitened C params in
+    publishedChi2Limit dof (roundingNorm (w .a) (w .b) (w .c) (w .d) (w .count))
 
 -- the normalised residual of reception i at some parameters: `residual(*index, &fit.params).abs() / sigma(*index)`
 unfoldable pub normalised : Receptions → List Float → ℕ → Float
@@ -58,7 +61,8 @@ module _ (R : Receptions) where
   -- "the source's remaining steps": the whitener again, chi-square, then `finish`
   abbrev pub tested : ℤ → Subset → Fit → Factor → Outcome Unpublished Fix
   tested reference S fit (refused l) = fails unpublished.Singular
-  tested reference S fit (found l) = cond (lt (limitAt (chosenOver R S l) (dofOf S) (fit .params)) (fit .cost)) (fails unpublished.Inconsistent) (finish (maskOf S (R .n)) (dofOf S) reference fit)
+  tested reference S fit (found l) = cond (lt (limitAt (chosenOver R S l) (dofOf S) (fit .params)) (fit .cost))
+      (fails unpublished.Inconsistent) (finish (maskOf S (R .n)) (dofOf S) reference fit)
 
   unfoldable pub later : ℤ → Subset → Fit → Outcome Unpublished Fix
   later reference S fit = tested reference S fit (whitenerOver R S)

@@ -53,7 +53,9 @@ pub fn fit_included(
     state: State,
 ) -> BestAt
     requires { ⌜ n ≤ 32 ⌝ }
-    ensures { λ r. ⌜ r ≡ asBestAt (bestFitOver (receptions (now (site .entry)) (now (z .entry)) (now (noise .entry)) (now (clock .entry)) n altitude) (has (state .included)) (before state)) ⌝ }
+    ensures { λ r. ⌜ r ≡ asBestAt (bestFitOver
+        (receptions (now (site .entry)) (now (z .entry)) (now (noise .entry)) (now (clock .entry)) n altitude)
+        (has (state .included)) (before state)) ⌝ }
 {
     let included = state.included;
     let had = state.had;

@@ -68,7 +68,9 @@ fn outlier_rounds(
     kept: u32,
 ) -> Answer
     requires { ⌜ (n ≤ 32) × (kept < 2 ^ n) ⌝ }
-    ensures { λ r. ⌜ r ≡ asAnswer (solved (settingOf (receptions (now (site .entry)) (now (z .entry)) (now (noise .entry)) (now (clock .entry)) n altitude) (has kept) reference)) ⌝ }
+    ensures { λ r. ⌜ r ≡ asAnswer (solved
+        (settingOf (receptions (now (site .entry)) (now (z .entry)) (now (noise .entry)) (now (clock .entry)) n
+        altitude) (has kept) reference)) ⌝ }
 {
     let rounds = 2 * sets::count(kept) + 2;
     let mut state = first(kept);

@@ -42,7 +42,9 @@ fn normalised(
     i: usize,
 ) -> f64
     requires { ⌜ (n ≤ 32) × (i < n) ⌝ }
-    ensures { λ r. ⌜ ((altitude : Altitude) → r ≡ normalised (receptions (now (site .entry)) (now (z .entry)) (now (noise .entry)) (now (clock .entry)) n altitude) params i) ⌝ }
+    ensures { λ r. ⌜ ((altitude : Altitude) → r
+        ≡ normalised (receptions (now (site .entry)) (now (z .entry)) (now (noise .entry)) (now (clock .entry)) n
+        altitude) params i) ⌝ }
 {
     let raw = whitening::residual(site, z, i, params);
     binary64::abs(raw) / whitening::sigma(clock, n, noise, i)
@@ -58,7 +60,9 @@ pub fn residuals(
     params: [f64; 4],
 ) -> [f64; 32]
     requires { ⌜ n ≤ 32 ⌝ }
-    ensures { λ r. ⌜ ((altitude : Altitude) → r ≡ fillTo (normalised (receptions (now (site .entry)) (now (z .entry)) (now (noise .entry)) (now (clock .entry)) n altitude) params) (replicate 32 nought) n) ⌝ }
+    ensures { λ r. ⌜ ((altitude : Altitude) → r
+        ≡ fillTo (normalised (receptions (now (site .entry)) (now (z .entry)) (now (noise .entry)) (now (clock .entry))
+        n altitude) params) (replicate 32 nought) n) ⌝ }
 {
     let mut out = [0.0; 32];
     for i in 0..n {
@@ -200,7 +204,8 @@ fn looked(kept: u32, included: u32, z: &[f64; 32], k: usize) -> Choices
 // What the residuals decide: 6 where one is not a number, then a removal, then a return.
 pub fn decided(kept: u32, included: u32, z: &[f64; 32], n: usize) -> Turn
     requires { ⌜ (n ≤ 32) × (included < 2 ^ n) ⌝ }
-    ensures { λ r. ⌜ ((f : fit.Fit) → stepOf r f ≡ decided (has kept) (has included) (nth (now (z .entry))) n f) × ((m : ℕ) → r ≡ Changes m → m < 2 ^ n) ⌝ }
+    ensures { λ r. ⌜ ((f : fit.Fit) → stepOf r f ≡ decided (has kept) (has included) (nth (now (z .entry))) n f)
+        × ((m : ℕ) → r ≡ Changes m → m < 2 ^ n) ⌝ }
 {
     if unnumbered(kept, z, n) {
         return Turn::Ends(Refusal::Singular);

@@ -63,7 +63,10 @@ pub fn round(
     state: State,
 ) -> Step
     requires { ⌜ (n ≤ 32) × (state .included < 2 ^ n) ⌝ }
-    ensures { λ r. ⌜ ((reference : ℤ) → stepOf (r .turn) (r .fit) ≡ rounds.round (settingOf (receptions (now (site .entry)) (now (z .entry)) (now (noise .entry)) (now (clock .entry)) n altitude) (has kept) reference) (has (state .included)) (before state)) × ((m : ℕ) → r .turn ≡ Changes m → m < 2 ^ n) ⌝ }
+    ensures { λ r. ⌜ ((reference : ℤ) → stepOf (r .turn) (r .fit)
+        ≡ rounds.round (settingOf (receptions (now (site .entry)) (now (z .entry)) (now (noise .entry))
+        (now (clock .entry)) n altitude) (has kept) reference) (has (state .included)) (before state))
+        × ((m : ℕ) → r .turn ≡ Changes m → m < 2 ^ n) ⌝ }
     ensures { λ r. ⌜ (r .turn ≡ Settles → r .place ≡ fromEcef (position (r .fit .params))) ⌝ }
 {
     let included = state.included;

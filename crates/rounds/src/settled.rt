@@ -62,7 +62,8 @@ fn limit(
     dof: u32,
 ) -> f64
     requires { ⌜ (k ≤ 32) × (place ≡ fromEcef (position params)) ⌝ }
-    ensures { λ x. ⌜ x ≡ limitAt (chosen k (now (sites .entry)) (now (z .entry)) (now (l .entry)) altitude) dof params ⌝ }
+    ensures { λ x. ⌜ x ≡ limitAt (chosen k (now (sites .entry)) (now (z .entry)) (now (l .entry))
+        altitude) dof params ⌝ }
 {
     let row = whitening::row_place(altitude, place);
     let mut r = [0.0; 33];
@@ -101,7 +102,9 @@ pub fn settled(
     place: Geodetic,
 ) -> Finished
     requires { ⌜ (n ≤ 32) × (included < 2 ^ n) × (place ≡ fromEcef (position (fit .params))) ⌝ }
-    ensures { λ r. ⌜ r ≡ asFinished (later (receptions (now (site .entry)) (now (z .entry)) (now (noise .entry)) (now (clock .entry)) n altitude) «reference_ps» (has included) fit) ⌝ }
+    ensures { λ r. ⌜ r ≡ asFinished (later
+        (receptions (now (site .entry)) (now (z .entry)) (now (noise .entry)) (now (clock .entry)) n altitude)
+        «reference_ps» (has included) fit) ⌝ }
 {
     let used = subset(site, z, n, included);
     let k = used.k;
@@ -115,7 +118,18 @@ pub fn settled(
     if whitening::whitener(clock, n, noise, &index, factor.n, &mut factor.l) {
         let dof = dof(included, altitude);
         let params = fit.params;
-        if fit.cost > limit(&sites, &times, factor.n, &factor.l, altitude, params, place, dof) {
+        if fit.cost
+            > limit(
+                &sites,
+                &times,
+                factor.n,
+                &factor.l,
+                altitude,
+                params,
+                place,
+                dof,
+            )
+        {
             return withheld(Unpublished::Inconsistent);
         }
         return finish(included, dof, reference_ps, fit, place);

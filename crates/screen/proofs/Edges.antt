@@ -15,7 +15,8 @@ at x y z = record { x = x; y = y; z = z }
 -- ---- "One site twice: gap 3,335,640 ps passes, 3,335,641 fails.", whatever the site
 pub no-baseline : (s : Site) → baseline s s ≡ 0
 unfolding baseline
-no-baseline s = ap₂ (λ (xy z : ℕ). floorRoot (xy + square z)) (ap₂ (λ (x y : ℕ). square x + square y) (gap-self (s .x)) (gap-self (s .y))) (gap-self (s .z))
+no-baseline s = ap₂ (λ (xy z : ℕ). floorRoot (xy + square z))
+    (ap₂ (λ (x y : ℕ). square x + square y) (gap-self (s .x)) (gap-self (s .y))) (gap-self (s .z))
 
 pub one-site-passes : (s : Site) → passes 3_335_640 (baseline s s) ≡ true
 unfolding passes
@@ -44,7 +45,8 @@ baseline-of-twos = refl
 
 -- from one end of the domain to the other: `negsuc k` is -(k + 1)
 pub baseline-of-the-farthest :
-    baseline (at (negsuc 9_999_999_999) (negsuc 9_999_999_999) (negsuc 9_999_999_999)) (at (pos 10_000_000_000) (pos 10_000_000_000) (pos 10_000_000_000)) ≡ 34_641_016_151
+    baseline (at (negsuc 9_999_999_999) (negsuc 9_999_999_999) (negsuc 9_999_999_999))
+    (at (pos 10_000_000_000) (pos 10_000_000_000) (pos 10_000_000_000)) ≡ 34_641_016_151
 unfolding baseline
 baseline-of-the-farthest = refl
 

@@ -77,7 +77,8 @@ module _ (t x y z : ℕ) (s : t < 2 ^ 63) (lx : x < t) (ly : y < t) (lz : z < t)
 -- ---- a pair, as the code tests it
 module _ (times sites : List ℤ) (i j : ℕ) where
   pub clash-is : (least : ℕ) {g x y z : ℕ} {r : Bool} → g ≡ gap (timeAt times i) (timeAt times j)
-      → x ≡ gap (siteAt sites i .x) (siteAt sites j .x) → y ≡ gap (siteAt sites i .y) (siteAt sites j .y) → z ≡ gap (siteAt sites i .z) (siteAt sites j .z)
+      → x ≡ gap (siteAt sites i .x) (siteAt sites j .x) → y ≡ gap (siteAt sites i .y) (siteAt sites j .y) → z
+      ≡ gap (siteAt sites i .z) (siteAt sites j .z)
       → ((b : ℕ) → passes g b ≡ leb least b) → r ≡ leb least (floorRoot (x * x + y * y + z * z)) → not r ≡ clash times sites i j
   unfolding clash baseline
   clash-is least {x = x} {y = y} {z = z} eg ex ey ez from e =

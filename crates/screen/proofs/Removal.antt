@@ -88,7 +88,8 @@ module _ (n : ℕ) (fails : ℕ → ℕ → Bool) where
 
         most : (j : ℕ) → T (A j) → T (more n fails A j i) ⊎ T (not (more n fails A j i)) → clash-count A j ≤ clash-count A i
         most j t (inr u) = nltb→le (clash-count A i) (clash-count A j) u
-        most j t (inl u) = absurd (T-not (more n fails A j i) (h .unbeaten j (w j t) (candidate j t (omega (arith, ltb→lt (clash-count A i) (clash-count A j) u)))) u)
+        most j t (inl u) = absurd (T-not (more n fails A j i)
+            (h .unbeaten j (w j t) (candidate j t (omega (arith, ltb→lt (clash-count A i) (clash-count A j) u)))) u)
 
         lowest : (j : ℕ) → j < i → T (A j) → T (ltb 0 (clash-count A j)) ⊎ T (not (ltb 0 (clash-count A j))) → clash-count A j < clash-count A i
         lowest j l t (inl u) = ltb→lt (clash-count A j) (clash-count A i) (h .lowest j l (and-both (A j) (ltb 0 (clash-count A j)) t u))
@@ -119,7 +120,8 @@ module _ (n : ℕ) (fails : ℕ → ℕ → Bool) where
       fewer A i w g (inl c) = inl (omega (arith, count-without A n i (w i (g .here)) (g .here)))
       fewer A i w g (inr c) = absurd (clear-stays A i c g)
 
-      go : (A : Subset) (o : Option ℕ) → goes n fails A ≡ o → Within A → Reached A → Fewer k A → let B = Option·elim o A (without A) in Within B × Reached B × Fewer (suc k) B
+      go : (A : Subset) (o : Option ℕ) → goes n fails A ≡ o → Within A → Reached A → Fewer k A → let B = Option·elim o A (without A) in
+          Within B × Reached B × Fewer (suc k) B
       go A none e w r f = (w, r, inr (goes-none A w e))
       go A (some i) e w r f =
           let g = goes-some A w i e in

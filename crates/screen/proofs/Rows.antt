@@ -138,10 +138,12 @@ module _ (times sites : List ℤ) where
       pub marked-passes : (rows : List ℕ) → t ≡ false → Marked rows i j → Marked rows i (j + 1)
       marked-passes rows f m =
           let passed = sym e ∙ f in
-          marked-next rows rows (λ a p q. refl) (m .own ∙ row-stays i j (eq→F passed)) (m .ahead j (omega arith) l ∙ row-stays j i (eq→F (clash-sym times sites j i ∙ passed))) m
+          marked-next rows rows (λ a p q. refl) (m .own ∙ row-stays i j (eq→F passed))
+          (m .ahead j (omega arith) l ∙ row-stays j i (eq→F (clash-sym times sites j i ∙ passed))) m
 
       pub marked-fails : (rows : List ℕ) (x y : ℕ) → i < length rows → t ≡ true
-          → has x ≡ joined (has (getD rows i 0)) j → has y ≡ joined (has (getD (set rows i x) j 0)) i → Marked rows i j → Marked (set (set rows i x) j y) i (j + 1)
+          → has x ≡ joined (has (getD rows i 0)) j → has y ≡ joined (has (getD (set rows i x) j 0)) i → Marked rows i j
+          → Marked (set (set rows i x) j y) i (j + 1)
       marked-fails rows x y s f ex ey m =
           let failed = sym e ∙ f in
           let row : getD (set rows i x) j 0 ≡ getD rows j 0 = getD-set-other rows i j x 0 (λ q. omega arith) in
@@ -149,10 +151,12 @@ module _ (times sites : List ℤ) where
           let theirs = getD-set-same (set rows i x) j y 0 (rw length-set (omega arith)) in
           marked-next rows (set (set rows i x) j y) (λ a p q. getD-set-other (set rows i x) j a y 0 q ∙ getD-set-other rows i a x 0 p)
           (ap has own ∙ ex ∙ ap (λ (S : Subset). joined S j) (m .own) ∙ row-joins i j (eq→T failed))
-          (ap has theirs ∙ ey ∙ ap (λ (S : Subset). joined S i) (ap has row ∙ m .ahead j (omega arith) l) ∙ row-joins j i (eq→T (clash-sym times sites j i ∙ failed)))
+          (ap has theirs ∙ ey ∙ ap (λ (S : Subset). joined S i) (ap has row ∙ m .ahead j (omega arith) l)
+          ∙ row-joins j i (eq→T (clash-sym times sites j i ∙ failed)))
           m
 
   -- ---- before the first reception
   pub marked-none : (k : ℕ) → pairsOf (replicate k 0) ≡ fails times sites 0
   unfolding pairsOf
-  marked-none k = fun-ext (λ (a : ℕ). fun-ext (λ (b : ℕ). ap (λ (x : ℕ). has x b) (zeros k a) ∙ has-zero b ∙ sym (row-none a b)) ∙ sym (fails-none 0 a (omega arith)))
+  marked-none k = fun-ext (λ (a : ℕ). fun-ext (λ (b : ℕ). ap (λ (x : ℕ). has x b) (zeros k a) ∙ has-zero b ∙ sym (row-none a b))
+      ∙ sym (fails-none 0 a (omega arith)))

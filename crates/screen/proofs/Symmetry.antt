@@ -16,7 +16,8 @@ squared-sym a b = rw (gap-sym (a .x) (b .x), gap-sym (a .y) (b .y), gap-sym (a .
 module _ (times sites : List ℤ) where
   pub clash-sym : (i j : ℕ) → clash times sites i j ≡ clash times sites j i
   unfolding clash baseline
-  clash-sym i j = ap₂ (λ (g s : ℕ). not (passes g (floorRoot s))) (gap-sym (timeAt times i) (timeAt times j)) (squared-sym (siteAt sites i) (siteAt sites j))
+  clash-sym i j = ap₂ (λ (g s : ℕ). not (passes g (floorRoot s))) (gap-sym (timeAt times i) (timeAt times j))
+      (squared-sym (siteAt sites i) (siteAt sites j))
 
   pub clash-self : (i : ℕ) → clash times sites i i ≡ false
   unfolding clash passes

@@ -11,7 +11,8 @@ use Rattle.screen.specs.Pair.{gap, baseline, passes, timeAt, siteAt, fai
 use Rattle.screen.specs.Screen.{clashes, kept}
 
 module _ (n : ℕ) (fails : ℕ → ℕ → Bool) where
-  -- "the reception in most failing pairs goes, lowest index on ties": i is in a failing pair of A, no other of A is in more, and each before it is in fewer
+  -- "the reception in most failing pairs goes, lowest index on ties": i is in a failing pair of A, no other of A is in
+  -- more, and each before it is in fewer
   pub record Goes (A : Subset) (i : ℕ) : Type 0 where
     pub here : T (A i)
     pub clash : 0 < clashes n fails A i

@@ -1,5 +1,5 @@
--- The pair test of document 01's screen, in whole numbers of any size: "gap × 299,792,458 ≤ (baseline + 1,000,000) × 10^9, baseline the floored root".
--- Definitions only.
+-- The pair test of document 01's screen, in whole numbers of any size: "gap × 299,792,458 ≤ (baseline + 1,000,000) ×
+-- 10^9, baseline the floored root". Definitions only.
 use mathlib.Core.Bool.{Bool, not, _&&_}
 use mathlib.Core.List.{List}
 use Prim.Native.Nat.{ℕ, _+_, _*_, _^_}
@@ -25,7 +25,8 @@ pub record Site : Type 0 where
 abbrev pub squared : Site → Site → ℕ
 squared a b = square (gap (a .x) (b .x)) + square (gap (a .y) (b .y)) + square (gap (a .z) (b .z))
 
--- the millimetres between two sites: the floored root of that sum, which is the greatest whole number whose square is not above it (`FloorRootIsGreatest` of wide)
+-- the millimetres between two sites: the floored root of that sum, which is the greatest whole number whose square is
+-- not above it (`FloorRootIsGreatest` of wide)
 unfoldable pub baseline : Site → Site → ℕ
 unfolding floorRoot
 baseline a b = floorRoot (squared a b)
@@ -39,12 +40,17 @@ abbrev pub timeAt : List ℤ → ℕ → ℤ
 timeAt times i = getD times i (pos 0)
 
 abbrev pub siteAt : List ℤ → ℕ → Site
-siteAt sites i = record { x = getD sites (3 * i) (pos 0); y = getD sites (3 * i + 1) (pos 0); z = getD sites (3 * i + 2) (pos 0) }
+siteAt sites i = record {
+  x = getD sites (3 * i) (pos 0);
+  y = getD sites (3 * i + 1) (pos 0);
+  z = getD sites (3 * i + 2) (pos 0);
+}
 
 -- receptions i and j are a failing pair; no reception is one with itself, as its gap is 0
 unfoldable pub clash : List ℤ → List ℤ → ℕ → ℕ → Bool
 unfolding passes baseline
-clash times sites i j = not (passes (gap (timeAt times i) (timeAt times j)) (baseline (siteAt sites i) (siteAt sites j)))
+clash times sites i j = not (passes (gap (timeAt times i) (timeAt times j))
+    (baseline (siteAt sites i) (siteAt sites j)))
 
 -- the pair i, j of the first n receptions fails
 unfoldable pub fails : List ℤ → List ℤ → ℕ → ℕ → ℕ → Bool

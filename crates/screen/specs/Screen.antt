@@ -1,5 +1,5 @@
--- The removals of document 01's screen, over any relation of failing pairs, as a computation: "While a pair fails, the reception in most failing pairs goes, lowest index on
--- ties." Definitions only; Meaning.antt says what they come to.
+-- The removals of document 01's screen, over any relation of failing pairs, as a computation: "While a pair fails, the
+-- reception in most failing pairs goes, lowest index on ties." Definitions only; Meaning.antt says what they come to.
 use mathlib.Core.List.{List}
 use mathlib.Core.Option.{Option, Option·elim}
 use mathlib.Core.Bool.{Bool, _&&_}

@@ -45,7 +45,8 @@ module _ (p : ℕ → Bool) (beats : ℕ → ℕ → Bool) (R : Ranks p beats) w
     below = omega arith;
     candidate = t;
     lowest = λ j l u. elim (R .split k j b u w) [ inl v ↦ v | inr v ↦ absurd (T-not (beats j b) (h .unbeaten j l u) v) ];
-    unbeaten = up-to (λ (j : ℕ). T (not (beats j k))) k (λ j l u. not-T (beats j k) (λ v. less j l u (R .split j b k (h .candidate) v))) (λ u. unbeaten-self k);
+    unbeaten = up-to (λ (j : ℕ). T (not (beats j k))) k (λ j l u. not-T (beats j k) (λ v. less j l u (R .split j b k (h .candidate) v)))
+        (λ u. unbeaten-self k);
   }
     where
       less : (j : ℕ) → j < k → T (p j) → T (beats j b) ⊎ T (beats b k) → ⊥
@@ -124,9 +125,11 @@ module _ (p : ℕ → Bool) (beats : ℕ → ℕ → Bool) (k w : ℕ) (s : k �
       go q = let z : w ≡ 32 = e ∙ ap indexOf q in omega arith
 
   -- one index more: no candidate, the first one, a better one, or one that is not better
-  turn : (t : Bool) (o : Option ℕ) (r : ℕ) → p k ≡ t → choose p beats k ≡ o → r ≡ indexOf (consider beats t k o) → r ≡ indexOf (choose p beats (k + 1))
+  turn : (t : Bool) (o : Option ℕ) (r : ℕ) → p k ≡ t → choose p beats k ≡ o → r ≡ indexOf (consider beats t k o) → r
+      ≡ indexOf (choose p beats (k + 1))
   unfolding choose
-  turn t o r f c q = q ∙ ap₂ (λ (x : Bool) (y : Option ℕ). indexOf (consider beats x k y)) (sym f) (sym c) ∙ ap (λ (x : ℕ). indexOf (choose p beats x)) (sym (add-one k))
+  turn t o r f c q = q ∙ ap₂ (λ (x : Bool) (y : Option ℕ). indexOf (consider beats x k y)) (sym f) (sym c)
+      ∙ ap (λ (x : ℕ). indexOf (choose p beats x)) (sym (add-one k))
 
   pub skips : p k ≡ false → w ≡ indexOf (choose p beats (k + 1))
   unfolding consider
@@ -148,7 +151,8 @@ module _ (p : ℕ → Bool) (beats : ℕ → ℕ → Bool) (k w : ℕ) (s : k �
   pub choice-turn : (r : ℕ) → r ≡ cond (p k && (leb 32 w || beats k w)) k w → r ≡ indexOf (choose p beats (k + 1))
   choice-turn r h = h ∙ go (p k) refl (either (ltb w 32)) (beats k w) refl
     where
-      go : (c : Bool) → p k ≡ c → T (ltb w 32) ⊎ T (not (ltb w 32)) → (b : Bool) → beats k w ≡ b → cond (c && (leb 32 w || b)) k w ≡ indexOf (choose p beats (k + 1))
+      go : (c : Bool) → p k ≡ c → T (ltb w 32) ⊎ T (not (ltb w 32)) → (b : Bool) → beats k w ≡ b → cond (c && (leb 32 w || b)) k w
+          ≡ indexOf (choose p beats (k + 1))
       go false f l b q = skips f
       go true f (inl l) true q = let m = ltb→lt w 32 l in ap (λ (x : Bool). cond (x || true) k w) (lt-leb 32 w m) ∙ takes f m q
       go true f (inl l) false q = let m = ltb→lt w 32 l in ap (λ (x : Bool). cond (x || false) k w) (lt-leb 32 w m) ∙ leaves f m q

@@ -61,6 +61,12 @@ count-without S (suc k) i h t = go (lt-suc-cases i k h) (λ l. count-without S k
     goes : i ≡ k → T (not (without S i k))
     goes e = not-T (without S i k) (λ u. in-without S i k .0 u .1 (sym e))
 
-    go : (i ≡ k) ⊎ (i < k) → (i < k → suc (count (without S i) k) ≡ count S k) → suc (cond (without S i k) 1 0 + count (without S i) k) ≡ cond (S k) 1 0 + count S k
-    go (inl e) f = omega (arith, bit-in (S k) (subst (λ (x : ℕ). T (S x)) e t), bit-out (without S i k) (goes e), count-same (without S i) S k (λ j l. stays j (λ q. omega arith)))
+    go : (i ≡ k) ⊎ (i < k) → (i < k → suc (count (without S i) k) ≡ count S k) → suc (cond (without S i k) 1 0 + count (without S i) k)
+        ≡ cond (S k) 1 0 + count S k
+    go (inl e) f = omega (
+      arith,
+      bit-in (S k) (subst (λ (x : ℕ). T (S x)) e t),
+      bit-out (without S i k) (goes e),
+      count-same (without S i) S k (λ j l. stays j (λ q. omega arith)),
+    )
     go (inr l) f = omega (arith, ap {B = ℕ} (λ (b : Bool). cond b 1 0) (stays k (λ q. omega arith)), f l)

@@ -40,7 +40,11 @@ has-beyond (suc n) m zero h l = absurd (omega arith)
 has-beyond (suc n) m (suc j) h l = has-suc m j ∙ has-beyond n (m / 2) j (omega (arith, pow-suc 2 n)) (omega arith)
 
 pub has-below : (n m j : ℕ) → m < 2 ^ n → T (has m j) → j < n
-has-below n m j h t = elim (either (ltb j n)) [ inl l ↦ ltb→lt j n l | inr g ↦ absurd (T-not (has m j) (eq→F (has-beyond n m j h (nltb→le j n g))) t) ]
+has-below n m j h t = elim (either (ltb j n)) [
+  | inl l ↦ ltb→lt j n l
+  | inr g
+      ↦ absurd (T-not (has m j) (eq→F (has-beyond n m j h (nltb→le j n g))) t)
+]
 
 -- ---- two masks, digit by digit
 module _ (op f : ℕ → ℕ → ℕ) (g : Bool → Bool → Bool)
@@ -55,10 +59,12 @@ module _ (op f : ℕ → ℕ → ℕ) (g : Bool → Bool → Bool)
       ap (λ (z : ℕ). eqb (z % 2) 1) (shr a b j ∙ step x y) ∙ ap (λ (z : ℕ). eqb z 1) (digits-mod (op (x / 2) (y / 2)) (h .0)) ∙ h .1
 
 pub has-and : (a b j : ℕ) → has (bitAnd a b) j ≡ (has a j && has b j)
-has-and = has-op bitAnd min _&&_ and-shr and-step (digit-cases _ (digit-cases _ (omega arith, refl) (omega arith, refl)) (digit-cases _ (omega arith, refl) (omega arith, refl)))
+has-and = has-op bitAnd min _&&_ and-shr and-step (digit-cases _ (digit-cases _ (omega arith, refl) (omega arith, refl))
+    (digit-cases _ (omega arith, refl) (omega arith, refl)))
 
 pub has-or : (a b j : ℕ) → has (bitOr a b) j ≡ (has a j || has b j)
-has-or = has-op bitOr max _||_ or-shr or-step (digit-cases _ (digit-cases _ (omega arith, refl) (omega arith, refl)) (digit-cases _ (omega arith, refl) (omega arith, refl)))
+has-or = has-op bitOr max _||_ or-shr or-step (digit-cases _ (digit-cases _ (omega arith, refl) (omega arith, refl))
+    (digit-cases _ (omega arith, refl) (omega arith, refl)))
 
 -- ---- masks of the code
 
@@ -68,7 +74,8 @@ unfolding has
 has-pow zero zero = refl
 has-pow zero (suc j) = has-suc 1 j ∙ has-zero j ∙ sym (eqb·suc-zero j)
 has-pow (suc i) zero = ap (λ (x : ℕ). eqb x 1) (let e : 2 ^ suc i / 1 % 2 ≡ 0 = omega arith in e) ∙ sym (eqb·zero-suc i)
-has-pow (suc i) (suc j) = has-suc (2 ^ suc i) j ∙ ap (λ (x : ℕ). has x j) (let e : 2 ^ suc i / 2 ≡ 2 ^ i = omega arith in e) ∙ has-pow i j ∙ sym (eqb·suc-suc j i)
+has-pow (suc i) (suc j) = has-suc (2 ^ suc i) j ∙ ap (λ (x : ℕ). has x j) (let e : 2 ^ suc i / 2 ≡ 2 ^ i = omega arith in e) ∙ has-pow i j
+    ∙ sym (eqb·suc-suc j i)
 
 -- each of n digits turned
 pub has-not : (n m j : ℕ) → m < 2 ^ n → j < n → has (2 ^ n - 1 - m) j ≡ not (has m j)

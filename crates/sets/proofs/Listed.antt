@@ -13,7 +13,8 @@ use Rattle.sets.proofs.Tests.{lt-suc-cases}
 use Rattle.sets.proofs.Counting.{count-le}
 
 -- a member is added at the place that the count before it gives, and counted
-pub adds : (S : Subset) (index : List ℕ) (i : ℕ) → S i ≡ true → (count S (suc i) ≡ suc (count S i)) × (membersTo S index (suc i) ≡ set (membersTo S index i) (count S i) i)
+pub adds : (S : Subset) (index : List ℕ) (i : ℕ) → S i ≡ true → (count S (suc i) ≡ suc (count S i))
+    × (membersTo S index (suc i) ≡ set (membersTo S index i) (count S i) i)
 unfolding count membersTo
 adds S index i e = (rw e (omega arith), rw e refl)
 
@@ -50,7 +51,8 @@ lists S index (suc i) a l h = go (S i) refl (λ u. lists S index i a (omega arit
     last : a ≡ count S i → getD (set known (count S i) i) a 0 ≡ i
     last e = rw e (getD-set-same known (count S i) i 0 (omega (arith, count-le S i, members-length S index i)))
 
-    add : S i ≡ true → (a ≡ count S i) ⊎ (a < count S i) → (a < count S i → Lists S i (getD known a 0)) → Lists S (suc i) (getD (set known (count S i) i) a 0)
+    add : S i ≡ true → (a ≡ count S i) ⊎ (a < count S i) → (a < count S i → Lists S i (getD known a 0))
+        → Lists S (suc i) (getD (set known (count S i) i) a 0)
     add e (inl s) f = subst (Lists S (suc i)) (sym (last s)) (record { below = omega arith; member = subst T (sym e) tt })
     add e (inr u) f = subst (Lists S (suc i)) (sym (getD-set-other known (count S i) a i 0 (λ e. omega arith))) (later S i (getD known a 0) (f u))
 
@@ -82,7 +84,8 @@ placed S index (suc k) i l h t = go (S k) refl (lt-suc-cases i k h) (λ u. place
         record {
           place = count S k;
           below = omega (arith, step .0);
-          there = ap (λ w. getD w (count S k) 0) (step .1) ∙ getD-set-same known (count S k) k 0 (omega (arith, count-le S k, members-length S index k)) ∙ sym s;
+          there = ap (λ w. getD w (count S k) 0) (step .1)
+              ∙ getD-set-same known (count S k) k 0 (omega (arith, count-le S k, members-length S index k)) ∙ sym s;
         }
     go true e (inr u) f =
         let step = adds S index k e in

@@ -30,7 +30,8 @@ module _ (m i : ℕ) (h : i < 32) where
 
   pub has-without : m < 2 ^ 32 → has (bitAnd m (2 ^ 32 - 1 - 1 * 2 ^ i % 2 ^ 32)) ≡ without (has m) i
   unfolding without
-  has-without l = ap (λ (x : ℕ). has (bitAnd m (2 ^ 32 - 1 - x))) (one-bit i h) ∙ fun-ext (λ (j : ℕ). has-and m (2 ^ 32 - 1 - 2 ^ i) j ∙ go j (either (ltb j 32)))
+  has-without l = ap (λ (x : ℕ). has (bitAnd m (2 ^ 32 - 1 - x))) (one-bit i h)
+      ∙ fun-ext (λ (j : ℕ). has-and m (2 ^ 32 - 1 - 2 ^ i) j ∙ go j (either (ltb j 32)))
     where
       go : (j : ℕ) → T (ltb j 32) ⊎ T (not (ltb j 32)) → (has m j && has (2 ^ 32 - 1 - 2 ^ i) j) ≡ (has m j && not (eqb j i))
       go j (inl t) = ap (λ (b : Bool). has m j && b) (has-not 32 (2 ^ i) j (pow-lt h) (ltb→lt j 32 t) ∙ ap not (has-pow i j))
@@ -40,7 +41,8 @@ pub has-first : (n : ℕ) → has (2 ^ n - 1) ≡ first n
 has-first n = fun-ext (λ (j : ℕ). go j (either (ltb j n)))
   where
     go : (j : ℕ) → T (ltb j n) ⊎ T (not (ltb j n)) → has (2 ^ n - 1) j ≡ ltb j n
-    go j (inl t) = ap (λ (x : ℕ). has x j) (let e : 2 ^ n - 1 ≡ 2 ^ n - 1 - 0 = omega arith in e) ∙ has-not n 0 j (pow-pos n) (ltb→lt j n t) ∙ ap not (has-zero j) ∙ sym (T→eq (ltb j n) t)
+    go j (inl t) = ap (λ (x : ℕ). has x j) (let e : 2 ^ n - 1 ≡ 2 ^ n - 1 - 0 = omega arith in e) ∙ has-not n 0 j (pow-pos n) (ltb→lt j n t)
+        ∙ ap not (has-zero j) ∙ sym (T→eq (ltb j n) t)
     go j (inr t) = has-beyond n (2 ^ n - 1) j (ones-lt n) (nltb→le j n t) ∙ sym (F→eq (ltb j n) t)
 
 -- ---- the number of ones
@@ -55,7 +57,8 @@ pub count-ones : (n m : ℕ) → m < 2 ^ n → ones m ≡ count (has m) n
 unfolding count ones
 count-ones zero m h = ap ones (let e : m ≡ 0 = omega arith in e)
 count-ones (suc n) m h =
-    ones-step m ∙ ap₂ (λ (x y : ℕ). x + y) (sym (has-low m)) (count-ones n (m / 2) (omega (arith, pow-suc 2 n)) ∙ count-same (has (m / 2)) (λ (j : ℕ). has m (suc j)) n (λ j l. sym (has-suc m j)))
+    ones-step m ∙ ap₂ (λ (x y : ℕ). x + y) (sym (has-low m))
+    (count-ones n (m / 2) (omega (arith, pow-suc 2 n)) ∙ count-same (has (m / 2)) (λ (j : ℕ). has m (suc j)) n (λ j l. sym (has-suc m j)))
     ∙ sym (count-low (has m) n)
 
 -- the same at every width that holds the mask
@@ -78,7 +81,8 @@ unfolding maskOf
 mask-back zero m h = omega arith
 mask-back (suc n) m h =
     mask-low (has m) n
-    ∙ ap₂ (λ (x y : ℕ). x + 2 * y) (has-low m) (mask-same (λ (j : ℕ). has m (suc j)) (has (m / 2)) n (λ j l. has-suc m j) ∙ mask-back n (m / 2) (omega (arith, pow-suc 2 n)))
+    ∙ ap₂ (λ (x y : ℕ). x + 2 * y) (has-low m) (mask-same (λ (j : ℕ). has m (suc j)) (has (m / 2)) n (λ j l. has-suc m j)
+    ∙ mask-back n (m / 2) (omega (arith, pow-suc 2 n)))
     ∙ omega arith
 
 -- ---- and the mask of a set of receptions below n has that set
@@ -93,7 +97,8 @@ has-mask S zero j h = absurd (omega arith)
 has-mask S (suc n) zero h =
     bit-same (has (maskOf S (suc n)) 0) (S 0) (has-low (maskOf S (suc n)) ∙ ap (λ (m : ℕ). m % 2) (mask-low S n) ∙ omega (arith, bit-le (S 0)))
 has-mask S (suc n) (suc j) h =
-    has-suc (maskOf S (suc n)) j ∙ ap (λ (m : ℕ). has m j) (ap (λ (m : ℕ). m / 2) (mask-low S n) ∙ omega (arith, bit-le (S 0))) ∙ has-mask (λ i. S (suc i)) n j (omega arith)
+    has-suc (maskOf S (suc n)) j ∙ ap (λ (m : ℕ). has m j) (ap (λ (m : ℕ). m / 2) (mask-low S n) ∙ omega (arith, bit-le (S 0)))
+    ∙ has-mask (λ i. S (suc i)) n j (omega arith)
 
 pub mask-lt : (S : Subset) (n : ℕ) → maskOf S n < 2 ^ n
 unfolding maskOf

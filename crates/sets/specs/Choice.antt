@@ -1,5 +1,6 @@
--- The first best of some candidates: the worst that goes, the least that comes back, the best fit. Ties go to the lowest index.
--- `p i` says that i is a candidate, and `beats i j` that i is better than j. Definitions and statements only: proofs/Choosing.antt proves each.
+-- The first best of some candidates: the worst that goes, the least that comes back, the best fit. Ties go to the
+-- lowest index. `p i` says that i is a candidate, and `beats i j` that i is better than j. Definitions and statements
+-- only: proofs/Choosing.antt proves each.
 use mathlib.Core.Path.{_≡_}
 use mathlib.Core.Logic.{_⊎_}
 use mathlib.Core.Option.{Option, none, some}
@@ -45,8 +46,10 @@ pub record Ranks (p : ℕ → Bool) (beats : ℕ → ℕ → Bool) : Type 0 wher
 
 -- the pass finds the choice, after every k
 abbrev pub PassFindsChoice : Type 0
-PassFindsChoice = (p : ℕ → Bool) (beats : ℕ → ℕ → Bool) → Ranks p beats → (k : ℕ) → IsChoice p beats k (choose p beats k)
+PassFindsChoice = (p : ℕ → Bool) (beats : ℕ → ℕ → Bool) → Ranks p beats → (k : ℕ)
+    → IsChoice p beats k (choose p beats k)
 
 -- and there is no other
 abbrev pub OneChoice : Type 0
-OneChoice = (p : ℕ → Bool) (beats : ℕ → ℕ → Bool) (k : ℕ) (o q : Option ℕ) → IsChoice p beats k o → IsChoice p beats k q → o ≡ q
+OneChoice = (p : ℕ → Bool) (beats : ℕ → ℕ → Bool) (k : ℕ) (o q : Option ℕ) → IsChoice p beats k o
+    → IsChoice p beats k q → o ≡ q

@@ -52,7 +52,8 @@ module _ (u v centroid : List Float) where
   places-four [] = no-four
   places-four (l ∷ ls) =
       let p : List Float = placeAt u v centroid l in
-      appended (cond (allFinite p) (p ∷ []) []) (places u v centroid ls) (either Fours (allFinite p) (p ∷ []) [] (one-more p [] (place-four l) no-four) no-four) (places-four ls)
+      appended (cond (allFinite p) (p ∷ []) []) (places u v centroid ls)
+      (either Fours (allFinite p) (p ∷ []) [] (one-more p [] (place-four l) no-four) no-four) (places-four ls)
 
   crossed-four : Fours (crossed u v centroid)
   unfolding crossed
@@ -65,7 +66,8 @@ factored-four (found l) ones alpha centroid = crossed-four (pseudo l ones) (pseu
 module _ (sites z : List Float) (k : ℕ) where
   bancroft-four : (centroid : List Float) → Fours (bancroft sites z k centroid)
   unfolding bancroft
-  bancroft-four centroid = factored-four (cholesky (productsTo sites z centroid k) 4 (replicate 16 nought)) (rhsTo sites z centroid false k) (rhsTo sites z centroid true k) centroid
+  bancroft-four centroid = factored-four (cholesky (productsTo sites z centroid k) 4 (replicate 16 nought)) (rhsTo sites z centroid false k)
+      (rhsTo sites z centroid true k) centroid
 
   module _ (height : Float) (centroid : List Float) (basis : List (List Float)) where
     circle-four : (radius : Float) (step : ℕ) → Fours (circleTo sites z k height centroid basis radius step)
@@ -105,7 +107,9 @@ module _ (sites z : List Float) (k : ℕ) where
           (either Fours had (four (nth previous) ∷ []) [] (one-more (four (nth previous)) [] refl no-four) no-four) starts-four
 
       -- what `starts` ensures, as its callers use it: the i-th start
-      pub starts-at : (r : Points) → r ≡ packed empty (startsAfter had previous sites z k altitude) → (i : ℕ) → i < length (startsAfter had previous sites z k altitude)
+      pub starts-at : (r : Points) → r ≡ packed empty (startsAfter had previous sites z k altitude) → (i : ℕ)
+          → i < length (startsAfter had previous sites z k altitude)
           → point (r .at) i ≡ getD (startsAfter had previous sites z k altitude) i []
       starts-at r e i h =
-          ap (λ (q : Points). point (q .at) i) e ∙ packed-at (startsAfter had previous sites z k altitude) (starts-most sites z k altitude had previous) i h ∙ after-four i h
+          ap (λ (q : Points). point (q .at) i) e ∙ packed-at (startsAfter had previous sites z k altitude)
+          (starts-most sites z k altitude had previous) i h ∙ after-four i h

@@ -61,7 +61,8 @@ factored-most (found l) ones alpha centroid = crossed-most (pseudo l ones) (pseu
 -- Bancroft's roots are two at most
 bancroft-most : (sites z : List Float) (k : ℕ) (centroid : List Float) → length (bancroft sites z k centroid) ≤ 2
 unfolding bancroft
-bancroft-most sites z k centroid = factored-most (cholesky (productsTo sites z centroid k) 4 (replicate 16 nought)) (rhsTo sites z centroid false k) (rhsTo sites z centroid true k) centroid
+bancroft-most sites z k centroid = factored-most (cholesky (productsTo sites z centroid k) 4 (replicate 16 nought)) (rhsTo sites z centroid false k)
+    (rhsTo sites z centroid true k) centroid
 
 -- the ring has sixteen
 module _ (sites z : List Float) (k : ℕ) (height : Float) (centroid : List Float) (basis : List (List Float)) where
@@ -101,10 +102,12 @@ module _ (sites z : List Float) (k : ℕ) (altitude : Altitude) where
       let e : length (roots ++ (above ∷ [])) ≡ length roots + 1 = length-append roots (above ∷ []) in
       let most : length roots ≤ 2 = bancroft-most sites z k middle in
       let sixteen : length (ring sites z k height middle basis) ≡ 16 = ring-count sites z k height middle basis in
-      either Between (leb 4 k) (roots ++ (above ∷ [])) (above ∷ ring sites z k height middle basis) (omega arith, omega arith) (omega arith, omega arith)
+      either Between (leb 4 k) (roots ++ (above ∷ [])) (above ∷ ring sites z k height middle basis) (omega arith, omega arith)
+      (omega arith, omega arith)
 
   module _ (had : Bool) (previous : List Float) where
-    after-count : length (startsAfter had previous sites z k altitude) ≡ length (cond had (four (nth previous) ∷ []) []) + length (starts sites z k altitude)
+    after-count : length (startsAfter had previous sites z k altitude) ≡ length (cond had (four (nth previous) ∷ []) [])
+        + length (starts sites z k altitude)
     unfolding startsAfter
     after-count = length-append (cond had (four (nth previous) ∷ []) []) (starts sites z k altitude)
 
@@ -118,5 +121,6 @@ module _ (sites z : List Float) (k : ℕ) (altitude : Altitude) where
     starts-most = omega (arith, after-count, before-most, starts-between)
 
     -- what `starts` ensures, as its callers use it
-    pub starts-count : (r : Points) → r ≡ packed empty (startsAfter had previous sites z k altitude) → r .n ≡ length (startsAfter had previous sites z k altitude)
+    pub starts-count : (r : Points) → r ≡ packed empty (startsAfter had previous sites z k altitude) → r .n
+        ≡ length (startsAfter had previous sites z k altitude)
     starts-count r e = ap (λ (q : Points). q .n) e ∙ packed-count (startsAfter had previous sites z k altitude) starts-most

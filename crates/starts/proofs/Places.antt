@@ -35,10 +35,12 @@ stays : (s : Points) (ps : List (List Float)) (j : ℕ) → j < s .n → s .n + 
 unfolding packed
 stays s [] j h m = refl
 stays s (p ∷ ps) j h m =
-    ap (λ (q : Points). point (packed q ps .at) j) (pushed s p (omega arith)) ∙ stays (next s p) ps j (omega arith) (omega arith) ∙ elsewhere (s .at) (s .n) p j h
+    ap (λ (q : Points). point (packed q ps .at) j) (pushed s p (omega arith)) ∙ stays (next s p) ps j (omega arith) (omega arith)
+    ∙ elsewhere (s .at) (s .n) p j h
 
 -- behind s
-behind : (s : Points) (ps : List (List Float)) (k : ℕ) → length (s .at) ≡ 72 → s .n + length ps ≤ 18 → k < length ps → point (packed s ps .at) (s .n + k) ≡ four (nth (getD ps k []))
+behind : (s : Points) (ps : List (List Float)) (k : ℕ) → length (s .at) ≡ 72 → s .n + length ps ≤ 18 → k < length ps
+    → point (packed s ps .at) (s .n + k) ≡ four (nth (getD ps k []))
 unfolding packed
 behind s [] k l m h = absurd (omega arith)
 behind s (p ∷ ps) zero l m h =

@@ -20,7 +20,8 @@ module _ (a : List Float) (i : ℕ) (x y z : Float) where
 
   before : (j : ℕ) → j < i → nth three j ≡ nth a j
   before j h =
-      getD-set-other two (i + 2) j z nan (λ e. omega arith) ∙ getD-set-other one (i + 1) j y nan (λ e. omega arith) ∙ getD-set-other a i j x nan (λ e. omega arith)
+      getD-set-other two (i + 2) j z nan (λ e. omega arith) ∙ getD-set-other one (i + 1) j y nan (λ e. omega arith)
+      ∙ getD-set-other a i j x nan (λ e. omega arith)
 
   pub three-kept : (j : ℕ) → j + 2 < i → nth three j ∷ nth three (j + 1) ∷ nth three (j + 2) ∷ [] ≡ nth a j ∷ nth a (j + 1) ∷ nth a (j + 2) ∷ []
   three-kept j h = rw (before j (omega arith), before (j + 1) (omega arith), before (j + 2) (omega arith))
@@ -46,10 +47,16 @@ module _ (a : List Float) (i : ℕ) (x y z : Float) where
     kept : (j : ℕ) → j < i → nth all j ≡ nth a j
     kept j h = below j (omega arith) ∙ before j h
 
-    pub four-kept : (j : ℕ) → j + 3 < i → nth all j ∷ nth all (j + 1) ∷ nth all (j + 2) ∷ nth all (j + 3) ∷ [] ≡ nth a j ∷ nth a (j + 1) ∷ nth a (j + 2) ∷ nth a (j + 3) ∷ []
+    pub four-kept : (j : ℕ) → j + 3 < i → nth all j ∷ nth all (j + 1) ∷ nth all (j + 2) ∷ nth all (j + 3) ∷ []
+        ≡ nth a j ∷ nth a (j + 1) ∷ nth a (j + 2) ∷ nth a (j + 3) ∷ []
     four-kept j h = rw (kept j (omega arith), kept (j + 1) (omega arith), kept (j + 2) (omega arith), kept (j + 3) (omega arith))
 
     pub four-read : i + 3 < length a → nth all i ∷ nth all (i + 1) ∷ nth all (i + 2) ∷ nth all (i + 3) ∷ [] ≡ x ∷ y ∷ z ∷ w ∷ []
     four-read h =
-        rw (below i (omega arith), below (i + 1) (omega arith), below (i + 2) (omega arith), getD-set-same three (i + 3) w nan (simp length-set (omega arith)))
+        rw (
+          below i (omega arith),
+          below (i + 1) (omega arith),
+          below (i + 2) (omega arith),
+          getD-set-same three (i + 3) w nan (simp length-set (omega arith)),
+        )
         (ap (λ (l : List Float). l ++ (w ∷ [])) (three-read (omega arith)))

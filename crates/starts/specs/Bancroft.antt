@@ -1,4 +1,5 @@
--- `bancroft` of solve.rs: the closed form for z_i = T + |X - s_i|, in coordinates centred on the sites' centroid. Definitions only.
+-- `bancroft` of solve.rs: the closed form for z_i = T + |X - s_i|, in coordinates centred on the sites' centroid.
+-- Definitions only.
 use mathlib.Core.Bool.{Bool, true, false, cond, _&&_}
 use mathlib.Core.List.{List, [], _∷_, _++_}
 use Prim.Native.Nat.{ℕ, zero, suc}
@@ -45,13 +46,15 @@ lambdas a b c =
 
 -- `params.iter().all(|value| value.is_finite())`
 unfoldable pub allFinite : List Float → Bool
-allFinite params = isFinite (nth params 0) && (isFinite (nth params 1) && (isFinite (nth params 2) && isFinite (nth params 3)))
+allFinite params = isFinite (nth params 0)
+    && (isFinite (nth params 1) && (isFinite (nth params 2) && isFinite (nth params 3)))
 
 module _ (u v centroid : List Float) where
   -- the parameters of a root
   abbrev pub placeAt : Float → List Float
   placeAt lambda =
-      let at : ℕ → Float = λ i. lambda ⊗ nth u i ⊕ nth v i in (at 0 ⊕ nth centroid 0) ∷ (at 1 ⊕ nth centroid 1) ∷ (at 2 ⊕ nth centroid 2) ∷ at 3 ∷ []
+      let at : ℕ → Float = λ i. lambda ⊗ nth u i ⊕ nth v i in
+      (at 0 ⊕ nth centroid 0) ∷ (at 1 ⊕ nth centroid 1) ∷ (at 2 ⊕ nth centroid 2) ∷ at 3 ∷ []
 
   -- those of each root; the `filter` leaves out what is not all finite
   unfoldable pub places : List Float → List (List Float)
@@ -67,6 +70,8 @@ abbrev pub factored : Factor → List Float → List Float → List Float → Li
 factored (refused l) ones alpha centroid = []
 factored (found l) ones alpha centroid = crossed (pseudo l ones) (pseudo l alpha) centroid
 
--- `bancroft` of k receptions. Its n is k, and so is that of `starts` where `bancroft` is called, with four or more: the centroid is the same.
+-- `bancroft` of k receptions. Its n is k, and so is that of `starts` where `bancroft` is called, with four or more: the
+-- centroid is the same.
 unfoldable pub bancroft : List Float → List Float → ℕ → List Float → List (List Float)
-bancroft sites z k centroid = factored (cholesky (productsTo sites z centroid k) 4 (replicate 16 nought)) (rhsTo sites z centroid false k) (rhsTo sites z centroid true k) centroid
+bancroft sites z k centroid = factored (cholesky (productsTo sites z centroid k) 4 (replicate 16 nought))
+    (rhsTo sites z centroid false k) (rhsTo sites z centroid true k) centroid

@@ -28,7 +28,8 @@ unfoldable pub centroid : List Float → ℕ → List Float
 centroid sites k = centroidTo sites (one ⊘ size k) k
 
 module _ (sites z : List Float) where
-  -- the sum of the transmit times that the first i receptions give the place x. Document 01: "Sums start from plus zero".
+  -- the sum of the transmit times that the first i receptions give the place x. Document 01: "Sums start from plus
+  -- zero".
   unfoldable pub sentTo : List Float → ℕ → Float
   sentTo x zero = nought
   sentTo x (suc i) = sentTo x i ⊕ (nth z i ⊖ norm (sub x (siteAt sites i)))
@@ -39,7 +40,11 @@ module _ (sites z : List Float) where
 
   -- the start at a place's latitude and longitude, and at this height
   unfoldable pub lifted : ℕ → Geodetic → Float → List Float
-  lifted k ground height = timed k (toEcef (record { «lat_deg» = ground .«lat_deg»; «lon_deg» = ground .«lon_deg»; «height_m» = height }))
+  lifted k ground height = timed k (toEcef (record {
+    «lat_deg» = ground .«lat_deg»;
+    «lon_deg» = ground .«lon_deg»;
+    «height_m» = height;
+  }))
 
 -- `bearing`: `TAU * step as f64 / RING_BEARINGS as f64`, with the digits of `std::f64::consts::TAU`
 unfoldable pub bearing : ℕ → Float
@@ -47,13 +52,16 @@ bearing step = decimal 628318530717958647692528676655900577 35 ⊗ ofInt binary6
 
 -- `linalg::add(centroid, offset)`, where the basis is east, north and up
 unfoldable pub ringPlace : List Float → List (List Float) → Float → ℕ → List Float
-ringPlace centroid basis radius step = add centroid (add (scale (getD basis 0 []) (radius ⊗ sin (bearing step))) (scale (getD basis 1 []) (radius ⊗ cos (bearing step))))
+ringPlace centroid basis radius step = add centroid
+    (add (scale (getD basis 0 []) (radius ⊗ sin (bearing step)))
+    (scale (getD basis 1 []) (radius ⊗ cos (bearing step))))
 
 module _ (sites z : List Float) (k : ℕ) (height : Float) (centroid : List Float) (basis : List (List Float)) where
   -- the starts at this radius, after `step` bearings
   unfoldable pub circleTo : Float → ℕ → List (List Float)
   circleTo radius zero = []
-  circleTo radius (suc step) = circleTo radius step ++ (lifted sites z k (fromEcef (ringPlace centroid basis radius step)) height ∷ [])
+  circleTo radius (suc step) = circleTo radius step
+      ++ (lifted sites z k (fromEcef (ringPlace centroid basis radius step)) height ∷ [])
 
   -- `RING_RADII_M` and `RING_BEARINGS`: eight starts at 100 km, then eight at 300 km
   unfoldable pub ring : List (List Float)

@@ -15,11 +15,13 @@ empty = record { n = 0; at = replicate 72 nought }
 
 -- the array with a start at place k
 abbrev pub stored : List Float → ℕ → List Float → List Float
-stored at k params = set (set (set (set at (4 * k) (nth params 0)) (4 * k + 1) (nth params 1)) (4 * k + 2) (nth params 2)) (4 * k + 3) (nth params 3)
+stored at k params = set (set (set (set at (4 * k) (nth params 0)) (4 * k + 1) (nth params 1)) (4 * k + 2)
+    (nth params 2)) (4 * k + 3) (nth params 3)
 
 -- one start more. Past 18 there is no room, and there are never more (`starts-most` in proofs/Count.antt).
 unfoldable pub push : Points → List Float → Points
-push points params = cond (ltb (points .n) 18) (record { n = points .n + 1; at = stored (points .at) (points .n) params }) points
+push points params = cond (ltb (points .n) 18)
+    (record { n = points .n + 1; at = stored (points .at) (points .n) params }) points
 
 -- a list more
 unfoldable pub packed : Points → List (List Float) → Points

@@ -19,13 +19,14 @@ startHeight None = decimal 9000 0
 startHeight (Barometric metres) = metres
 startHeight (Gnss metres) = metres
 
--- `starts` of k receptions: from four on Bancroft's roots and the centroid lifted, and under four the centroid lifted and the ring.
--- Document 01: "the ring is due only under four".
+-- `starts` of k receptions: from four on Bancroft's roots and the centroid lifted, and under four the centroid lifted
+-- and the ring. Document 01: "the ring is due only under four".
 unfoldable pub starts : List Float → List Float → ℕ → Altitude → List (List Float)
 starts sites z k altitude =
     let middle = centroid sites k in let ground = fromEcef middle in
     let height = startHeight altitude in let above = lifted sites z k ground height in
-    cond (leb 4 k) (bancroft sites z k middle ++ (above ∷ [])) (above ∷ ring sites z k height middle (enuBasis (ground .«lat_deg») (ground .«lon_deg»)))
+    cond (leb 4 k) (bancroft sites z k middle ++ (above ∷ []))
+    (above ∷ ring sites z k height middle (enuBasis (ground .«lat_deg») (ground .«lon_deg»)))
 
 -- the starts of a round: the last round's parameters come first (`vec![params]`), where it had any
 unfoldable pub startsAfter : Bool → List Float → List Float → List Float → ℕ → Altitude → List (List Float)

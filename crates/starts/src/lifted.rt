@@ -115,7 +115,8 @@ fn with_circle(
     radius: f64,
 ) -> Points
     requires { ⌜ k ≤ 32 ⌝ }
-    ensures { λ r. ⌜ r ≡ packed points (circleTo (now (sites .entry)) (now (z .entry)) k height centroid basis radius 8) ⌝ }
+    ensures { λ r. ⌜ r ≡ packed points (circleTo (now (sites .entry)) (now (z .entry)) k height centroid
+        basis radius 8) ⌝ }
 {
     let mut all = points;
     for step in 0..RING_BEARINGS {

@@ -68,7 +68,8 @@ pub record ReadBack : Type 0 where
   pub bytes : (p : Parts) (more : List ℕ) → Writable p → takes (written p ++ more) ≡ length (written p)
   -- so it is solved
   pub answers :
-      (p : Parts) (more out : List ℕ) → Writable p → solvedNext (written p ++ more) out ≡ whole (length (written p)) p out
+      (p : Parts) (more out : List ℕ) → Writable p → solvedNext (written p ++ more) out
+      ≡ whole (length (written p)) p out
   pub outputs : (p : Parts) (more out : List ℕ) → Writable p → outputNext (written p ++ more) out ≡ output (asked p) out
   -- and of a stream that ends within it nothing is
   pub ends :

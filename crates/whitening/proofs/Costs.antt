@@ -32,7 +32,8 @@ cost-past r k v (suc i) h =
 -- one residual more
 pub cost-more : (r : List Float) (k : ℕ) (v s : Float) → k < length r → s ≡ costTo r k → s ⊕ v ⊗ v ≡ costTo (set r k v) (k + 1)
 unfolding costTo
-cost-more r k v s h e = ap₂ (λ (t x : Float). t ⊕ x ⊗ x) (e ∙ sym (cost-past r k v k (omega arith))) (sym (getD-set-same r k v nan h)) ∙ ap (costTo (set r k v)) (sym (add-one k))
+cost-more r k v s h e = ap₂ (λ (t x : Float). t ⊕ x ⊗ x) (e ∙ sym (cost-past r k v k (omega arith))) (sym (getD-set-same r k v nan h))
+    ∙ ap (costTo (set r k v)) (sym (add-one k))
 
 forward-length : (l : List Float) (n : ℕ) (b : List Float) (i : ℕ) → length (forwardTo l n b i) ≡ length b
 unfolding forwardTo
@@ -58,5 +59,6 @@ fill-at f out (suc n) j l h = let here : j ≤ n = omega arith in go (eq-or-lt-o
     known = fillTo f out n
 
     go : (j ≡ n) ⊎ (j < n) → (j < n → nth known j ≡ f j) → getD (set known n (f n)) j nan ≡ f j
-    go (inl e) rec = ap (λ (x : ℕ). getD (set known n (f n)) x nan) e ∙ getD-set-same known n (f n) nan (omega (arith, fill-length f out n)) ∙ ap f (sym e)
+    go (inl e) rec = ap (λ (x : ℕ). getD (set known n (f n)) x nan) e
+        ∙ getD-set-same known n (f n) nan (omega (arith, fill-length f out n)) ∙ ap f (sym e)
     go (inr k) rec = getD-set-other known n j (f n) nan (λ e. omega arith) ∙ rec k

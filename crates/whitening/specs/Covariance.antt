@@ -1,4 +1,5 @@
--- The timing covariance of the chosen receptions `index` of n, square metres: `covariance`, `sigma` and `whitener` of solve.rs. Definitions only.
+-- The timing covariance of the chosen receptions `index` of n, square metres: `covariance`, `sigma` and `whitener` of
+-- solve.rs. Definitions only.
 use mathlib.Core.Bool.{cond}
 use mathlib.Core.List.{List}
 use Prim.Native.Nat.{ℕ, zero, suc, _+_, _-_}
@@ -16,7 +17,8 @@ unfoldable pub shared : List Float → ℕ → List Float → List ℕ → ℕ �
 shared clock n noise index a b =
     let value = at clock n (pick index a) (pick index b) in cond (eqb a b) (value ⊕ nth noise (pick index a)) value
 
--- `for (b, j) in subset.iter().enumerate().skip(a)`, after m turns: the value of a and b = a + m stands at both mirrored places of a matrix of size k
+-- `for (b, j) in subset.iter().enumerate().skip(a)`, after m turns: the value of a and b = a + m stands at both
+-- mirrored places of a matrix of size k
 unfoldable pub covarianceRowTo : List Float → ℕ → List Float → List ℕ → ℕ → ℕ → List Float → ℕ → List Float
 covarianceRowTo clock n noise index k a sigma zero = sigma
 covarianceRowTo clock n noise index k a sigma (suc m) =
@@ -26,7 +28,8 @@ covarianceRowTo clock n noise index k a sigma (suc m) =
 -- `for (a, i) in subset.iter().enumerate()`, after a turns
 unfoldable pub covarianceTo : List Float → ℕ → List Float → List ℕ → ℕ → List Float → ℕ → List Float
 covarianceTo clock n noise index k sigma zero = sigma
-covarianceTo clock n noise index k sigma (suc a) = covarianceRowTo clock n noise index k a (covarianceTo clock n noise index k sigma a) (k - a)
+covarianceTo clock n noise index k sigma (suc a) =
+    covarianceRowTo clock n noise index k a (covarianceTo clock n noise index k sigma a) (k - a)
 
 -- `covariance`, in an array: all k rows, and what lies past them stays
 abbrev pub covariance : List Float → ℕ → List Float → List ℕ → ℕ → List Float → List Float

@@ -1,4 +1,5 @@
--- What the altitude's row promises beyond its steps: document 02, Item 4. Statements only; proofs/Meaning.antt proves all.
+-- What the altitude's row promises beyond its steps: document 02, Item 4. Statements only; proofs/Meaning.antt proves
+-- all.
 use mathlib.Core.List.{List}
 use Prim.Native.Nat.{ℕ, _<_}
 use lib.Ieee.{Float}
@@ -23,7 +24,8 @@ UpWithinOne = (g : Geodetic) → Turn (g .«lat_deg») → Turn (g .«lon_deg»)
 -- so in a fit: at any parameters p whose position has a latitude and a longitude that are numbers
 abbrev pub UpOfPlaces : Type 0
 UpOfPlaces =
-    (p : List Float) → ((k : ℕ) → IsBinary64 (nth p k)) → HasPlace (fromEcef (position p)) → UpIn (fromEcef (position p))
+    (p : List Float) → ((k : ℕ) → IsBinary64 (nth p k)) → HasPlace (fromEcef (position p))
+    → UpIn (fromEcef (position p))
 
 -- as every finite position has, but the centre of the earth
 abbrev pub UpOfParameters : Type 0

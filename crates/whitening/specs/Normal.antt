@@ -12,7 +12,8 @@ use Rattle.whitening.specs.Whitened.{Chosen, Rows, whitened}
 -- `information.add(i, j, row[i] * row[j])` for each i and j, row by row
 unfoldable pub plusProducts : List Float → List Float → List Float
 plusProducts m row =
-    let entry : ℕ → ℕ → Float = λ i j. at m 4 i j ⊕ nth row i ⊗ nth row j in four (entry 0) ++ four (entry 1) ++ four (entry 2) ++ four (entry 3)
+    let entry : ℕ → ℕ → Float = λ i j. at m 4 i j ⊕ nth row i ⊗ nth row j in
+    four (entry 0) ++ four (entry 1) ++ four (entry 2) ++ four (entry 3)
 
 -- `gradient[i] += row[i] * r` for each i
 unfoldable pub plusMultiple : List Float → List Float → Float → List Float
@@ -30,7 +31,11 @@ normalTo w (suc i) =
     let e = normalTo w i in
     let r = nth (w .r) i in
     let row = nth (w .a) i ∷ nth (w .b) i ∷ nth (w .c) i ∷ nth (w .d) i ∷ [] in
-    record { information = plusProducts (e .information) row; gradient = plusMultiple (e .gradient) row r; cost = e .cost ⊕ r ⊗ r }
+    record {
+      information = plusProducts (e .information) row;
+      gradient = plusMultiple (e .gradient) row r;
+      cost = e .cost ⊕ r ⊗ r;
+    }
 
 -- all rows
 abbrev pub normal : Rows → Equations

@@ -1,4 +1,5 @@
--- Residuals and slopes of chosen receptions at some parameters p, whitened, and the altitude's row after them: `residual` and `whitened` of solve.rs. Definitions only.
+-- Residuals and slopes of chosen receptions at some parameters p, whitened, and the altitude's row after them:
+-- `residual` and `whitened` of solve.rs. Definitions only.
 use mathlib.Core.List.{List, [], _∷_}
 use Prim.Native.Nat.{ℕ, zero, suc, _+_}
 use lib.ListN.{getD, set, replicate}
@@ -50,7 +51,8 @@ slopeAt sites p axis i = neg (nth (sub (position p) (siteAt sites i)) axis) ⊘ 
 
 -- reception i before it is whitened: the residual and its four slopes
 unfoldable pub rawRow : List Float → List Float → ℕ → List Float → List Float
-rawRow sites z i p = residual sites z i p ∷ slopeAt sites p 0 i ∷ slopeAt sites p 1 i ∷ slopeAt sites p 2 i ∷ neg one ∷ []
+rawRow sites z i p = residual sites z i p ∷ slopeAt sites p 0 i ∷ slopeAt sites p 1 i ∷ slopeAt sites p
+    2 i ∷ neg one ∷ []
 
 -- entry j of the row of reception i
 abbrev pub raw : List Float → List Float → List Float → ℕ → ℕ → Float
@@ -73,7 +75,8 @@ blank = replicate 33 nought
 abbrev pub whitenedColumn : Chosen → List Float → ℕ → List Float
 whitenedColumn P p j = forward (P .whitener) (P .k) (fillTo (raw (P .sites) (P .z) p j) blank (P .k))
 
--- the place of the altitude's row: `geo::from_ecef(x)`, which is asked for where there is an altitude; zeros stand for it elsewhere
+-- the place of the altitude's row: `geo::from_ecef(x)`, which is asked for where there is an altitude; zeros stand for
+-- it elsewhere
 abbrev pub placeOf : Altitude → List Float → Geodetic
 placeOf None p = record { «lat_deg» = nought; «lon_deg» = nought; «height_m» = nought }
 placeOf (Barometric metres) p = fromEcef (position p)
@@ -93,9 +96,11 @@ heightRow metres sigma g = ((g .«height_m» ⊖ metres) ⊘ sigma) ∷ upRow si
 
 -- one row more, after the others
 abbrev pub push : Rows → List Float → Rows
-push w row = let put : List Float → ℕ → List Float = λ y j. set y (w .count) (nth row j) in rows (w .count + 1) (put (w .r) 0) (put (w .a) 1) (put (w .b) 2) (put (w .c) 3) (put (w .d) 4)
+push w row = let put : List Float → ℕ → List Float = λ y j. set y (w .count) (nth row j) in
+    rows (w .count + 1) (put (w .r) 0) (put (w .a) 1) (put (w .b) 2) (put (w .c) 3) (put (w .d) 4)
 
--- "the altitude row last", where there is an altitude, whose "one standard deviation" is `BARO_SIGMA_M` = 100 or `GNSS_SIGMA_M` = 15 metres
+-- "the altitude row last", where there is an altitude, whose "one standard deviation" is `BARO_SIGMA_M` = 100 or
+-- `GNSS_SIGMA_M` = 15 metres
 abbrev pub pushAltitude : Altitude → Geodetic → Rows → Rows
 pushAltitude None g w = w
 pushAltitude (Barometric metres) g w = push w (heightRow metres (decimal 100 0) g)
@@ -103,7 +108,9 @@ pushAltitude (Gnss metres) g w = push w (heightRow metres (decimal 15 0) g)
 
 -- `whitened`: the rows of the receptions, and the altitude's
 unfoldable pub whitened : Chosen → List Float → Rows
-whitened P p = let column = whitenedColumn P p in pushAltitude (P .altitude) (fromEcef (position p)) (rows (P .k) (column 0) (column 1) (column 2) (column 3) (column 4))
+whitened P p = let column = whitenedColumn P p in
+    pushAltitude (P .altitude) (fromEcef (position p))
+    (rows (P .k) (column 0) (column 1) (column 2) (column 3) (column 4))
 
 -- the slopes of the rows w beside residuals r
 abbrev pub beside : List Float → Rows → Rows

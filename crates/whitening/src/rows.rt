@@ -10,7 +10,8 @@ ghost use Rattle.binary64.specs.Root.{root};
 ghost use Rattle.binary64.specs.Steps.{nought};
 ghost use Rattle.geo.specs.Geo.{fromEcef};
 ghost use Rattle.problem.specs.Problem.{position};
-ghost use Rattle.whitening.specs.Whitened.{rangeAt, residual, fillTo, raw, rangesTo, placeOf, pushAltitude, blank, chosen, rows, whitened};
+ghost use Rattle.whitening.specs.Whitened.{rangeAt, residual, fillTo, raw, rangesTo, placeOf, pushAltitude};
+ghost use Rattle.whitening.specs.Whitened.{blank, chosen, rows, whitened};
 ghost use Rattle.whitening.specs.Normal.{costTo};
 use crate::slopes::slopes;
 use geo::Geodetic;
@@ -104,7 +105,9 @@ pub fn residuals(
     ranges: &mut [f64; 32],
 ) -> f64
     requires { ⌜ (k ≤ 32) × (now r ≡ blank) × (now ranges ≡ replicate 32 nought) ⌝ }
-    ensures { λ _. ⌜ (k < length (now (r .exit))) × (now (r .exit) ≡ forward (now (l .entry)) k (fillTo (raw (now (sites .entry)) (now (z .entry)) p 0) blank k)) ⌝ }
+    ensures { λ _. ⌜ (k < length (now (r .exit)))
+        × (now (r .exit) ≡ forward (now (l .entry)) k
+        (fillTo (raw (now (sites .entry)) (now (z .entry)) p 0) blank k)) ⌝ }
     ensures { λ _. ⌜ now (ranges .exit) ≡ rangesTo (now (sites .entry)) p k ⌝ }
     ensures { λ s. ⌜ s ≡ costTo (now (r .exit)) k ⌝ }
 {
@@ -163,7 +166,8 @@ pub fn push_height(
 ) -> f64
     requires { ⌜ (k ≤ 32) × (k < length (now r)) × (cost ≡ costTo (now r) k) ⌝ }
     ensures { λ _. ⌜ now (r .exit) ≡ pushAltitude altitude geodetic (rows k (now (r .entry)) [] [] [] []) .r ⌝ }
-    ensures { λ s. ⌜ s ≡ costTo (now (r .exit)) (pushAltitude altitude geodetic (rows k (now (r .entry)) [] [] [] []) .count) ⌝ }
+    ensures { λ s. ⌜ s ≡ costTo (now (r .exit))
+        (pushAltitude altitude geodetic (rows k (now (r .entry)) [] [] [] []) .count) ⌝ }
 {
     let height = geodetic.height_m;
     match altitude {
@@ -194,7 +198,8 @@ pub fn whitened(
     requires { ⌜ (k ≤ 32) × (geodetic ≡ placeOf altitude p) ⌝ }
     requires { ⌜ (now r ≡ blank) × (now a ≡ blank) × (now b ≡ blank) × (now c ≡ blank) × (now d ≡ blank) ⌝ }
     ensures { λ m. ⌜ m ≤ 33 ⌝ }
-    ensures { λ m. ⌜ rows m (now (r .exit)) (now (a .exit)) (now (b .exit)) (now (c .exit)) (now (d .exit)) ≡ whitened (chosen k (now (sites .entry)) (now (z .entry)) (now (l .entry)) altitude) p ⌝ }
+    ensures { λ m. ⌜ rows m (now (r .exit)) (now (a .exit)) (now (b .exit)) (now (c .exit)) (now (d .exit))
+        ≡ whitened (chosen k (now (sites .entry)) (now (z .entry)) (now (l .entry)) altitude) p ⌝ }
 {
     let mut ranges = [0.0; 32];
     let part = residuals(sites, z, k, l, p, &mut *r, &mut ranges);

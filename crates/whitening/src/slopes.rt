@@ -7,7 +7,8 @@ ghost use Rattle.dense.specs.Solve.{forward};
 ghost use mathlib.Core.List.{List, [], _∷_};
 ghost use lib.Ieee.{Float, neg};
 ghost use Rattle.binary64.specs.Steps.{one};
-ghost use Rattle.whitening.specs.Whitened.{rangeAt, slopeAt, fillTo, rangesTo, upRow, placeOf, pushAltitude, blank, chosen, rows, whitened};
+ghost use Rattle.whitening.specs.Whitened.{rangeAt, slopeAt, fillTo, rangesTo, upRow, placeOf, pushAltitude};
+ghost use Rattle.whitening.specs.Whitened.{blank, chosen, rows, whitened};
 use crate::rows::BARO_SIGMA_M;
 use crate::rows::GNSS_SIGMA_M;
 use geo::Geodetic;
@@ -16,7 +17,8 @@ use problem::Altitude;
 // The slopes of a reception of this range.
 fn slope_row(sites: &[f64; 96], i: usize, p: [f64; 4], range: f64) -> [f64; 4]
     requires { ⌜ (i < 32) × (range ≡ rangeAt (now sites) p i) ⌝ }
-    ensures { λ r. ⌜ r ≡ slopeAt (now (sites .entry)) p 0 i ∷ slopeAt (now (sites .entry)) p 1 i ∷ slopeAt (now (sites .entry)) p 2 i ∷ neg one ∷ [] ⌝ }
+    ensures { λ r. ⌜ r ≡ slopeAt (now (sites .entry)) p 0 i ∷ slopeAt (now (sites .entry)) p 1 i ∷ slopeAt
+        (now (sites .entry)) p 2 i ∷ neg one ∷ [] ⌝ }
 {
     let delta = linalg::sub([p[0], p[1], p[2]], problem::site(sites, i));
     [
@@ -150,7 +152,10 @@ fn push_up(
 ) -> usize
     requires { ⌜ k ≤ 32 ⌝ }
     ensures { λ m. ⌜ m ≤ 33 ⌝ }
-    ensures { λ m. ⌜ ((r : List Float) → rows m (pushAltitude altitude geodetic (rows k r [] [] [] []) .r) (now (a .exit)) (now (b .exit)) (now (c .exit)) (now (d .exit)) ≡ pushAltitude altitude geodetic (rows k r (now (a .entry)) (now (b .entry)) (now (c .entry)) (now (d .entry)))) ⌝ }
+    ensures { λ m. ⌜ ((r : List Float) → rows m (pushAltitude altitude geodetic (rows k r [] [] [] []) .r)
+        (now (a .exit)) (now (b .exit)) (now (c .exit)) (now (d .exit))
+        ≡ pushAltitude altitude geodetic
+        (rows k r (now (a .entry)) (now (b .entry)) (now (c .entry)) (now (d .entry)))) ⌝ }
 {
     match altitude {
         Altitude::None => k,
@@ -187,7 +192,9 @@ pub fn slopes(
     requires { ⌜ geodetic ≡ placeOf altitude p ⌝ }
     requires { ⌜ (now a ≡ blank) × (now b ≡ blank) × (now c ≡ blank) × (now d ≡ blank) ⌝ }
     ensures { λ m. ⌜ m ≤ 33 ⌝ }
-    ensures { λ m. ⌜ ((z : List Float) → rows m (whitened (chosen k (now (sites .entry)) z (now (l .entry)) altitude) p .r) (now (a .exit)) (now (b .exit)) (now (c .exit)) (now (d .exit)) ≡ whitened (chosen k (now (sites .entry)) z (now (l .entry)) altitude) p) ⌝ }
+    ensures { λ m. ⌜ ((z : List Float) → rows m
+        (whitened (chosen k (now (sites .entry)) z (now (l .entry)) altitude) p .r) (now (a .exit)) (now (b .exit))
+        (now (c .exit)) (now (d .exit)) ≡ whitened (chosen k (now (sites .entry)) z (now (l .entry)) altitude) p) ⌝ }
 {
     raw_slopes(sites, k, p, ranges, &mut *a, &mut *b, &mut *c, &mut *d);
     forward4(l, k, &mut *a, &mut *b, &mut *c, &mut *d);

@@ -62,7 +62,8 @@ pub fn normal(
     count: usize,
 ) -> Equations
     requires { ⌜ count ≤ 33 ⌝ }
-    ensures { λ e. ⌜ e ≡ normal (rows count (now (r .entry)) (now (a .entry)) (now (b .entry)) (now (c .entry)) (now (d .entry))) ⌝ }
+    ensures { λ e. ⌜ e ≡ normal (rows count (now (r .entry)) (now (a .entry)) (now (b .entry)) (now (c .entry))
+        (now (d .entry))) ⌝ }
 {
     let mut information = [0.0; 16];
     let mut gradient = [0.0; 4];
@@ -98,7 +99,8 @@ pub fn completed(
     requires { ⌜ k ≤ 32 ⌝ }
     requires { ⌜ now ranges ≡ rangesTo (now sites) p k ⌝ }
     requires { ⌜ geodetic ≡ placeOf altitude p ⌝ }
-    ensures { λ e. ⌜ ((z : List Float) → e ≡ normal (beside (now (r .entry)) (whitened (chosen k (now (sites .entry)) z (now (l .entry)) altitude) p))) ⌝ }
+    ensures { λ e. ⌜ ((z : List Float) → e
+        ≡ normal (beside (now (r .entry)) (whitened (chosen k (now (sites .entry)) z (now (l .entry)) altitude) p))) ⌝ }
 {
     let mut a = [0.0; 33];
     let mut b = [0.0; 33];

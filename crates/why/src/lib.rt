@@ -189,7 +189,8 @@ fn asked(
     requires { ⌜ Filled f n × (640 ≤ length (now out)) ⌝ }
     ensures verdict { λ r. ⌜ ((at : ℕ → reception.Reception) → Holds f n at → r ≡ why.verdict (inputsOf whole n at
         (reply.given present) (now (clock .entry)) (now (altitude .entry)) (now (reference .entry)))) ⌝ }
-    ensures states { λ _. ⌜ ((at : ℕ → reception.Reception) → Holds f n at → now (out .exit) ≡ why.states (inputsOf whole
+    ensures states { λ _. ⌜ ((at : ℕ → reception.Reception) → Holds f n at → now (out .exit)
+        ≡ why.states (inputsOf whole
         n at (reply.given present) (now (clock .entry)) (now (altitude .entry)) (now (reference .entry)))
         (now (out .entry))) ⌝ }
 {

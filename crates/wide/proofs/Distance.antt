@@ -33,7 +33,8 @@ apart : (p q : ℕ) → natAbs (pos p -ℤ pos q) ≡ p - q + (q - p)
 apart p zero = omega arith
 apart p (suc q) = go (ltb p (suc q)) (ltb-true p (suc q)) (ltb-false p (suc q))
   where
-    go : (t : Bool) → (t ≡ true → p < suc q) → (t ≡ false → suc q ≤ p) → natAbs (cond t (negsuc (suc q - suc p)) (pos (p - suc q))) ≡ p - suc q + (suc q - p)
+    go : (t : Bool) → (t ≡ true → p < suc q) → (t ≡ false → suc q ≤ p) → natAbs (cond t (negsuc (suc q - suc p)) (pos (p - suc q)))
+        ≡ p - suc q + (suc q - p)
     go true l g = omega (arith, l refl)
     go false l g = omega (arith, g refl)
 

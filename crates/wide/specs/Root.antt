@@ -1,4 +1,5 @@
--- What document 01's "baseline the floored root" means, in squares alone. A statement only; `greatest-root` in proofs/Floor.antt proves it.
+-- What document 01's "baseline the floored root" means, in squares alone. A statement only; `greatest-root` in
+-- proofs/Floor.antt proves it.
 use Prim.Native.Nat.{ℕ, _*_, _≤_}
 use Rattle.binary64.specs.Root.{floorRoot}
 

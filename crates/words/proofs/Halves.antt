@@ -25,4 +25,13 @@ write-parts zero b s k x = let e : x / 1 ≡ x = omega arith in rw (zero-add, ad
 write-parts (suc a) b s k x =
     let i : k + 1 + a ≡ k + suc a = omega arith in
     let l : x % 256 < 256 = omega arith in
-    rw (suc-add a b, write-parts a b (set s k (x % 256)) (k + 1) (x / 256), low a x, digits-div (x / 256 % 256 ^ a) l, digits-mod (x / 256 % 256 ^ a) l, i, div-div-eq-div-mul x 256 (256 ^ a), pow-succ' 256 a)
+    rw (
+      suc-add a b,
+      write-parts a b (set s k (x % 256)) (k + 1) (x / 256),
+      low a x,
+      digits-div (x / 256 % 256 ^ a) l,
+      digits-mod (x / 256 % 256 ^ a) l,
+      i,
+      div-div-eq-div-mul x 256 (256 ^ a),
+      pow-succ' 256 a,
+    )

@@ -41,10 +41,12 @@ from-zero (pos n) e f = let h : n < 2 ^ 63 = f .sfits in (tt, h, refl)
 from-zero (negsuc m) e f = let z : _≡_ {A = ℕ} 0 1 = cc in absurd (omega arith)
 
 -- the same of x as it comes back from its bits
-pub below : (x : ℤ) → SFits w64 x → ltZ (toZ w64 (ofZ w64 x)) (pos 0) ≡ true → (m : ℕ) × (negsuc 0 -ℤ toZ w64 (ofZ w64 x) ≡ pos m) × (m < 2 ^ 63) × (18446744073709551615 - m ≡ ofZ w64 x)
+pub below : (x : ℤ) → SFits w64 x → ltZ (toZ w64 (ofZ w64 x)) (pos 0) ≡ true → (m : ℕ) × (negsuc 0 -ℤ toZ w64 (ofZ w64 x) ≡ pos m) × (m < 2 ^ 63)
+    × (18446744073709551615 - m ≡ ofZ w64 x)
 below x f e = rw (toZ-ofZ w64 x f) (below-zero x (rw (toZ-ofZ w64 x f) at e) f)
 
-pub above : (x : ℤ) → SFits w64 x → ltZ (toZ w64 (ofZ w64 x)) (pos 0) ≡ false → T (nonNeg (toZ w64 (ofZ w64 x))) × (natAbs (toZ w64 (ofZ w64 x)) < 2 ^ 63) × (natAbs (toZ w64 (ofZ w64 x)) ≡ ofZ w64 x)
+pub above : (x : ℤ) → SFits w64 x → ltZ (toZ w64 (ofZ w64 x)) (pos 0) ≡ false → T (nonNeg (toZ w64 (ofZ w64 x)))
+    × (natAbs (toZ w64 (ofZ w64 x)) < 2 ^ 63) × (natAbs (toZ w64 (ofZ w64 x)) ≡ ofZ w64 x)
 above x f e = rw (toZ-ofZ w64 x f) (from-zero x (rw (toZ-ofZ w64 x f) at e) f)
 
 pub pos-fits : (n : ℕ) → n < 2 ^ 63 → SFits w64 (pos n)

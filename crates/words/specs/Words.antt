@@ -1,4 +1,5 @@
--- Numbers in a list of bytes. Document 01: "All files are records of one fixed size without a header, little-endian." Definitions only.
+-- Numbers in a list of bytes. Document 01: "All files are records of one fixed size without a header, little-endian."
+-- Definitions only.
 use Prim.Native.Nat.{ℕ, zero, suc, _+_, _*_, _/_, _%_}
 use mathlib.Core.List.{List}
 use lib.ListN.{getD, set}

@@ -41,15 +41,21 @@ loop-less : tie.Need-loop-less Inv-loop μ-loop
 loop-less c = search needs
 
 loop-again : tie.Need-loop-again Inv-loop μ-loop
-loop-again c =
-    (omega arith, any-next (λ j. fitAt (take (c .before .before .before .args .count) (fitsOf (c .before .before .before .args .t1))) j .ok) (c .before .before .loop .i) _ _ _ (c .before .before .loop .inv .1) (ap (λ (f : Fit). f .ok) (fit-front (c .before .before .before .args .t1) (c .before .before .before .args .count) (c .before .before .loop .i) (omega arith))) (c .either .ensures))
+loop-again c = (
+  omega arith,
+  any-next (λ j. fitAt (take (c .before .before .before .args .count) (fitsOf (c .before .before .before .args .t1))) j .ok)
+      (c .before .before .loop .i) _ _ _ (c .before .before .loop .inv .1)
+      (ap (λ (f : Fit). f .ok) (fit-front (c .before .before .before .args .t1) (c .before .before .before .args .count)
+      (c .before .before .loop .i) (omega arith))) (c .either .ensures),
+)
 
 returns : tie.Need-returns Inv-loop μ-loop
 returns c =
     let s = c .before .before in
     let l : length (s .args .t1) ≡ 18 = search needs in
     let m = length-map (s .args .t1) (λ (x : Placed). x .fit) in
-    let e : c .before .loop .i ≡ length (take (s .args .count) (fitsOf (s .args .t1))) = sym (length-take-le (s .args .count) (fitsOf (s .args .t1)) (omega arith) ∙ sym (omega arith)) in
+    let e : c .before .loop .i ≡ length (take (s .args .count) (fitsOf (s .args .t1))) =
+    sym (length-take-le (s .args .count) (fitsOf (s .args .t1)) (omega arith) ∙ sym (omega arith)) in
     rw (← e) (c .before .loop .inv .1)
 
 pub converged-spec : {M : Type 1} → statement M

@@ -42,7 +42,8 @@ slice-aggregate-mul-vec-3 : tie.Need-slice-aggregate-mul-vec-3
 slice-aggregate-mul-vec-3 c = search needs
 
 mul-vec-requires : tie.Need-mul-vec-requires
-mul-vec-requires c κs = let l : length (c .before .before .before .before .before .before .args .best .information) ≡ 16 = search needs in (omega arith, omega arith, omega arith)
+mul-vec-requires c κs = let l : length (c .before .before .before .before .before .before .args .best .information) ≡ 16 = search needs in
+    (omega arith, omega arith, omega arith)
 
 array-read-result-9 : tie.Need-array-read-result-9
 array-read-result-9 c = search needs

@@ -1,4 +1,5 @@
--- `best::fits` meets its contract. The invariant: the first i places hold the fits from the first i starts beside their places, and the others none. A turn stores one more (`fits-turn`). Assumes nothing.
+-- `best::fits` meets its contract. The invariant: the first i places hold the fits from the first i starts beside their places, and the others none.
+-- A turn stores one more (`fits-turn`). Assumes nothing.
 use borrow.Author.Needs.{needs}
 use mathlib.Core.Path.{_≡_, ap, _∙_}
 use mathlib.Core.List.{List}
@@ -16,7 +17,8 @@ use Rattle.best.proofs.fits.Statement.{statement}
 use Rattle.best.proofs.fits.Tie as tie
 
 abbrev Inv-loop : tie.InvT-loop
-Inv-loop sites z k l altitude at count fits₀ i₀ fits i = (i ≤ count) × (fits ≡ fitsTo (λ p. placed (levenbergMarquardt (chosen k sites z l altitude) p)) at i)
+Inv-loop sites z k l altitude at count fits₀ i₀ fits i = (i ≤ count)
+    × (fits ≡ fitsTo (λ p. placed (levenbergMarquardt (chosen k sites z l altitude) p)) at i)
 
 abbrev μ-loop : tie.MeasureT-loop
 μ-loop sites z k l altitude at count fits₀ i₀ fits i = count - i
@@ -53,7 +55,8 @@ loop-again c =
     let fit = c .levenberg-marquardt in
     let f : List Float → Placed = λ p. placed (levenbergMarquardt (chosen (s .k) (s .sites .now) (s .z .now) (s .l .now) (s .altitude)) p) in (
       omega arith,
-      ap (λ (fs : List Placed). set fs (at .i) (fit .result)) (at .inv .1) ∙ fits-turn f (s .at .now) (at .i) (fit .result) (omega arith) (fit .ensures ∙ ap f (c .before .point .ensures)),
+      ap (λ (fs : List Placed). set fs (at .i) (fit .result)) (at .inv .1)
+          ∙ fits-turn f (s .at .now) (at .i) (fit .result) (omega arith) (fit .ensures ∙ ap f (c .before .point .ensures)),
     )
 
 returns : tie.Need-returns Inv-loop μ-loop

@@ -1,4 +1,5 @@
--- `best::judged` meets its contract. The index of the best is the definition's choice, and each answer is what is made of it (proofs/Judging.antt). Assumes nothing.
+-- `best::judged` meets its contract. The index of the best is the definition's choice, and each answer is what is made of it (proofs/Judging.antt).
+-- Assumes nothing.
 use borrow.Author.Needs.{needs}
 use mathlib.Core.Path.{_≡_, ap, _∙_}
 use mathlib.Core.List.{List}
@@ -22,20 +23,29 @@ abbrev made : tie.After-best-of → List Fit
 made c = take (c .before .before .args .count) (fitsOf (c .before .before .args .t3))
 
 -- what the code holds once it has the index of the best
-held : (c : tie.After-best-of) → Held (c .before .before .args .sites .now) (c .before .before .args .k) (made c) (c .before .before .args .count) (c .best-of .result) (has (c .before .weighed .result))
+held : (c : tie.After-best-of) → Held (c .before .before .args .sites .now) (c .before .before .args .k) (made c) (c .before .before .args .count)
+    (c .best-of .result) (has (c .before .weighed .result))
 held c =
     let s = c .before .before .args in
     let l : length (s .t3) ≡ 18 = search needs in
     let m = length-map (s .t3) (λ (x : Placed). x .fit) in
-    record { few = omega arith; all = length-take-le (s .count) (fitsOf (s .t3)) (omega arith); set = c .before .weighed .ensures; index = c .best-of .ensures }
+    record {
+      few = omega arith;
+      all = length-take-le (s .count) (fitsOf (s .t3)) (omega arith);
+      set = c .before .weighed .ensures;
+      index = c .best-of .ensures;
+    }
 
 -- the best, in the array
-same : (c : tie.After-best-of) → c .best-of .result < 32 → placedAt (c .before .before .args .t3) (c .best-of .result) .fit ≡ fitAt (made c) (c .best-of .result)
+same : (c : tie.After-best-of) → c .best-of .result < 32 → placedAt (c .before .before .args .t3) (c .best-of .result) .fit
+    ≡ fitAt (made c) (c .best-of .result)
 same c h = fit-front (c .before .before .args .t3) (c .before .before .args .count) (c .best-of .result) (below (held c) h)
 
 -- and its place
-placed-there : (c : tie.After-best-of) → c .best-of .result < 32 → placedAt (c .before .before .args .t3) (c .best-of .result) .place ≡ fromEcef (position (placedAt (c .before .before .args .t3) (c .best-of .result) .fit .params))
-placed-there c h = place-at (placedAt (c .before .before .args .t3) (c .best-of .result)) (c .before .before .pre .2 (c .best-of .result) (below (held c) h)) (ap (λ (f : Fit). f .ok) (same c h) ∙ top-converged (held c) h)
+placed-there : (c : tie.After-best-of) → c .best-of .result < 32 → placedAt (c .before .before .args .t3) (c .best-of .result) .place
+    ≡ fromEcef (position (placedAt (c .before .before .args .t3) (c .best-of .result) .fit .params))
+placed-there c h = place-at (placedAt (c .before .before .args .t3) (c .best-of .result))
+    (c .before .before .pre .2 (c .best-of .result) (below (held c) h)) (ap (λ (f : Fit). f .ok) (same c h) ∙ top-converged (held c) h)
 
 weighed-requires : tie.Need-weighed-requires
 weighed-requires c κs = search needs
@@ -59,13 +69,15 @@ returns : tie.Need-returns
 returns c =
     let m = c .before .before .before .before .before .before in
     let h = c .before .before .before .before .before .if1 .taken in
-    c .refused .ensures ∙ ap asBestAt (ambiguous (held m) (c .before .before .rivalled .result) h (placedAt (m .before .before .args .t3) (m .best-of .result) .fit) (same m h) (c .before .before .rivalled .ensures) (c .before .if2 .taken))
+    c .refused .ensures ∙ ap asBestAt (ambiguous (held m) (c .before .before .rivalled .result) h
+    (placedAt (m .before .before .args .t3) (m .best-of .result) .fit) (same m h) (c .before .before .rivalled .ensures) (c .before .if2 .taken))
 
 returns-2 : tie.Need-returns-2
 returns-2 c =
     let m = c .before .before .before .before .before .before in
     let h = c .before .before .before .before .before .if1 .taken in
-    (alone-at (held m) (c .before .before .rivalled .result) h (placedAt (m .before .before .args .t3) (m .best-of .result) .fit) (same m h) (c .before .before .rivalled .ensures) (c .before .if2 .left) _ (placed-there m h))
+    (alone-at (held m) (c .before .before .rivalled .result) h (placedAt (m .before .before .args .t3) (m .best-of .result) .fit) (same m h)
+    (c .before .before .rivalled .ensures) (c .before .if2 .left) _ (placed-there m h))
 
 converged-requires : tie.Need-converged-requires
 converged-requires c κs = search needs
@@ -74,13 +86,15 @@ refused-requires-2 : tie.Need-refused-requires-2
 refused-requires-2 c κs = search needs
 
 returns-3 : tie.Need-returns-3
-returns-3 c = c .refused2 .ensures ∙ ap asBestAt (out-of-range (held (c .before .before .before .before)) (c .before .before .converged .result) (c .before .before .before .if1 .left) (c .before .before .converged .ensures) (c .before .if3 .taken))
+returns-3 c = c .refused2 .ensures ∙ ap asBestAt (out-of-range (held (c .before .before .before .before)) (c .before .before .converged .result)
+    (c .before .before .before .if1 .left) (c .before .before .converged .ensures) (c .before .if3 .taken))
 
 refused-requires-3 : tie.Need-refused-requires-3
 refused-requires-3 c κs = search needs
 
 returns-4 : tie.Need-returns-4
-returns-4 c = c .refused3 .ensures ∙ ap asBestAt (no-convergence (held (c .before .before .before .before)) (c .before .before .converged .result) (c .before .before .before .if1 .left) (c .before .before .converged .ensures) (c .before .if3 .left))
+returns-4 c = c .refused3 .ensures ∙ ap asBestAt (no-convergence (held (c .before .before .before .before)) (c .before .before .converged .result)
+    (c .before .before .before .if1 .left) (c .before .before .converged .ensures) (c .before .if3 .left))
 
 pub judged-spec : {M : Type 1} → statement M
 judged-spec =

@@ -30,12 +30,14 @@ all-near-requires c κs = search needs
 
 -- by the height's test and that of the ranges
 by-parts : (sites p : List Float) (k : ℕ) {at : Geodetic} {flies r : Bool}
-    → at ≡ fromEcef (position p) → flies ≡ (le minHeightM (at .«height_m») && le (at .«height_m») maxHeightM) → r ≡ (flies && nearTo sites (position p) k) → r ≡ plausible sites k p
+    → at ≡ fromEcef (position p) → flies ≡ (le minHeightM (at .«height_m») && le (at .«height_m») maxHeightM) → r
+    ≡ (flies && nearTo sites (position p) k) → r ≡ plausible sites k p
 unfolding plausible
 by-parts sites p k place height near = near ∙ rw (height, place)
 
 returns : tie.Need-returns
-returns c = by-parts _ _ _ (c .before .before .before .pre .1) (c .before .before .flying .ensures) (rw (c .before .if1 .taken) (c .all-near .ensures))
+returns c = by-parts _ _ _ (c .before .before .before .pre .1) (c .before .before .flying .ensures)
+    (rw (c .before .if1 .taken) (c .all-near .ensures))
 
 returns-2 : tie.Need-returns-2
 returns-2 c = by-parts _ _ _ (c .before .before .pre .1) (c .before .flying .ensures) (rw (c .if1 .left))

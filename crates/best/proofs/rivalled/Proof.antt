@@ -18,7 +18,8 @@ use Rattle.best.proofs.rivalled.Statement.{statement}
 use Rattle.best.proofs.rivalled.Tie as tie
 
 abbrev Inv-loop : tie.InvT-loop
-Inv-loop mask best count fits limit so-far₀ i₀ so-far i = (i ≤ count) × (so-far ≡ ltb 0 (sets.count (λ j. has mask j && explainsAlike best (fitAt (take count (fitsOf fits)) j)) i))
+Inv-loop mask best count fits limit so-far₀ i₀ so-far i = (i ≤ count)
+    × (so-far ≡ ltb 0 (sets.count (λ j. has mask j && explainsAlike best (fitAt (take count (fitsOf fits)) j)) i))
 
 abbrev μ-loop : tie.MeasureT-loop
 μ-loop mask best count fits limit so-far₀ i₀ so-far i = count - i
@@ -60,8 +61,13 @@ loop-again c =
     let at = c .before .before .before .before .before .before .before .loop in
     let fs = take (s .count) (fitsOf (s .t1)) in
     let same = fit-front (s .t1) (s .count) (at .i) (omega arith) in
-    let rivalry = c .before .before .rival .ensures ∙ ap₂ (λ (f : Fit) (limit : Float). not (lt (s .best .cost ⊕ decimal 9 0) (f .cost)) && lt limit (distance (s .best) f)) same (c .before .before .before .before .before .before .before .before .chi2-limit .ensures) in
-    (omega arith, any-next (λ j. has (s .mask) j && explainsAlike (s .best) (fitAt fs j)) (at .i) _ _ _ (at .inv .1) (c .before .both .ensures ∙ ap₂ (λ (a b : Bool). a && b) (c .before .before .before .has .ensures) rivalry) (c .either .ensures))
+    let rivalry = c .before .before .rival .ensures
+    ∙ ap₂ (λ (f : Fit) (limit : Float). not (lt (s .best .cost ⊕ decimal 9 0) (f .cost)) && lt limit (distance (s .best) f)) same
+    (c .before .before .before .before .before .before .before .before .chi2-limit .ensures) in (
+      omega arith,
+      any-next (λ j. has (s .mask) j && explainsAlike (s .best) (fitAt fs j)) (at .i) _ _ _ (at .inv .1)
+          (c .before .both .ensures ∙ ap₂ (λ (a b : Bool). a && b) (c .before .before .before .has .ensures) rivalry) (c .either .ensures),
+    )
 
 returns : tie.Need-returns Inv-loop μ-loop
 returns c =

@@ -1,4 +1,5 @@
--- `best::weighed` meets its contract. The invariant: the mask has those of the first i fits that are weighed. A weighed fit joins (`mask-joins`), any other changes nothing (`mask-stays`). Assumes nothing.
+-- `best::weighed` meets its contract. The invariant: the mask has those of the first i fits that are weighed. A weighed fit joins (`mask-joins`), any
+-- other changes nothing (`mask-stays`). Assumes nothing.
 use borrow.Author.Needs.{needs}
 use mathlib.Core.Path.{_≡_, refl, sym, ap, _∙_}
 use mathlib.Core.Logic.{⊎-elim}
@@ -49,7 +50,8 @@ loop-again c =
     let told = ap p (fit-at (s .t3) (at .i)) ∙ sym (test .ensures) in (
       omega arith,
       ⊎-elim
-          (λ w. rw (w .2) (w .1 .ensures .0 ∙ ap (λ (S : Subset). joined S (at .i)) (at .inv .1) ∙ mask-joins p refl (fitsOf (s .t3)) (at .i) (told ∙ w .0 .taken)))
+          (λ w. rw (w .2) (w .1 .ensures .0 ∙ ap (λ (S : Subset). joined S (at .i)) (at .inv .1)
+          ∙ mask-joins p refl (fitsOf (s .t3)) (at .i) (told ∙ w .0 .taken)))
           (λ w. rw (w .1) (at .inv .1 ∙ mask-stays p refl (fitsOf (s .t3)) (at .i) (told ∙ w .0 .left)))
           (c .if1 .came),
     )

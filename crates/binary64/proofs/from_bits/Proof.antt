@@ -1,4 +1,5 @@
--- `binary64::from_bits` meets its contract: below the sign, only a not-a-number's bits are above the infinity's (`pattern-nan`, `pattern-number`). Assumes nothing.
+-- `binary64::from_bits` meets its contract: below the sign, only a not-a-number's bits are above the infinity's (`pattern-nan`, `pattern-number`).
+-- Assumes nothing.
 use mathlib.Core.Path.{refl, sym, _∙_}
 use Rattle.binary64.proofs.Patterns.{pattern-number, pattern-nan, zero-by-zero}
 use Rattle.binary64.proofs.from_bits.Statement.{statement}

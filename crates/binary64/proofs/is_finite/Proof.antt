@@ -1,4 +1,5 @@
--- `binary64::is_finite` meets its contract: only an infinity and a not-a-number have all ones in the exponent's field (`finite-bits`). Assumes nothing.
+-- `binary64::is_finite` meets its contract: only an infinity and a not-a-number have all ones in the exponent's field (`finite-bits`). Assumes
+-- nothing.
 use mathlib.Core.Path.{ap, _∙_}
 use Rattle.binary64.specs.Steps.{isFinite}
 use Rattle.binary64.proofs.Patterns.{number, is-nan, back}

@@ -1,4 +1,5 @@
--- `damped::descent` meets its contract. The Cholesky's verdict picks the definition's case, and `solve` gives the found one's solution. Assumes nothing.
+-- `damped::descent` meets its contract. The Cholesky's verdict picks the definition's case, and `solve` gives the found one's solution. Assumes
+-- nothing.
 use borrow.Author.Needs.{needs}
 use Rattle.damped.specs.Damped.{descent}
 use Rattle.damped.proofs.descent.Statement.{statement}

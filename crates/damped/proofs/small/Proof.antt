@@ -35,14 +35,31 @@ returns c =
     let three = c .before in
     let two = c .before .before .before in
     let one = c .before .before .before .before .before in
-    rw (tolerance-bits, ← one .before .abs .ensures, ← two .before .abs2 .ensures, ← three .before .abs3 .ensures, ← c .abs4 .ensures, one .if1 .taken, two .if2 .taken, three .if3 .taken)
+    rw (
+      tolerance-bits,
+      ← one .before .abs .ensures,
+      ← two .before .abs2 .ensures,
+      ← three .before .abs3 .ensures,
+      ← c .abs4 .ensures,
+      one .if1 .taken,
+      two .if2 .taken,
+      three .if3 .taken,
+    )
 
 returns-2 : tie.Need-returns-2
 unfolding small
 returns-2 c =
     let two = c .before .before in
     let one = c .before .before .before .before in
-    rw (tolerance-bits, ← one .before .abs .ensures, ← two .before .abs2 .ensures, ← c .before .abs3 .ensures, one .if1 .taken, two .if2 .taken, c .if3 .left)
+    rw (
+      tolerance-bits,
+      ← one .before .abs .ensures,
+      ← two .before .abs2 .ensures,
+      ← c .before .abs3 .ensures,
+      one .if1 .taken,
+      two .if2 .taken,
+      c .if3 .left,
+    )
 
 returns-3 : tie.Need-returns-3
 unfolding small

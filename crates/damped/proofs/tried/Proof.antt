@@ -1,4 +1,6 @@
--- `damped::tried` meets its contract. Where the receptions alone cost more than the state, so do all rows (`above`); elsewhere the cost is the definition's (`cost-joined`), and so are the equations. The place is the candidate's where it is taken, and the state's where not (`moves`, `stays`). Assumes nothing.
+-- `damped::tried` meets its contract. Where the receptions alone cost more than the state, so do all rows (`above`); elsewhere the cost is the
+-- definition's (`cost-joined`), and so are the equations. The place is the candidate's where it is taken, and the state's where not (`moves`,
+-- `stays`). Assumes nothing.
 use borrow.Author.Needs.{needs}
 use denote.Ref.{now}
 use Rattle.whitening.specs.Whitened.{chosen}
@@ -20,7 +22,8 @@ returns c =
     let at = s .args in
     let P = chosen (at .k) (now (at .sites)) (now (at .z)) (now (at .l)) (at .altitude) in
     let first = c .before .before .residuals .ensures in (
-      at-once P (at .state) (at .x) (at .candidate) _ (above P (at .candidate) _ _ _ (s .pre .0) (first .0 .1) (first .1 .1) (c .before .if1 .taken)) (c .rejected .ensures),
+      at-once P (at .state) (at .x) (at .candidate) _ (above P (at .candidate) _ _ _ (s .pre .0) (first .0 .1) (first .1 .1) (c .before .if1 .taken))
+          (c .rejected .ensures),
       stays (at .altitude) (at .place) _ (at .state) (s .pre .1) (c .rejected .ensures),
     )
 
@@ -34,7 +37,13 @@ better-requires : tie.Need-better-requires
 better-requires c κs = search needs
 
 completed-requires : tie.Need-completed-requires
-completed-requires c κs = (c .before .before .before .before .before .before .before .before .before .before .before .pre .0, (c .before .before .before .before .before .before .before .before .residuals .ensures .1 .0, c .before .before .before .before .before .before .place .ensures))
+completed-requires c κs = (
+  c .before .before .before .before .before .before .before .before .before .before .before .pre .0,
+  (
+    c .before .before .before .before .before .before .before .before .residuals .ensures .1 .0,
+    c .before .before .before .before .before .before .place .ensures,
+  ),
+)
 
 accepted-requires : tie.Need-accepted-requires
 accepted-requires c κs = search needs
@@ -47,8 +56,10 @@ returns-2 c =
     let place = c .before .before .before .before .before .before .before .before .place .ensures in
     let pushed = c .before .before .before .before .before .before .push-height .ensures in
     let cost = cost-joined P (at .candidate) _ place column (pushed .0) _ (pushed .1) in
-    let next = completes P (at .candidate) _ _ (c .before .completed .ensures (now (at .z))) (residuals-joined P (at .candidate) _ place column (pushed .0)) in (
-      taken P (at .state) (at .x) (at .candidate) _ _ _ cost (c .before .before .before .before .before .better .ensures) (c .before .before .before .before .if2 .taken) _ next (c .accepted .ensures),
+    let next = completes P (at .candidate) _ _ (c .before .completed .ensures (now (at .z)))
+    (residuals-joined P (at .candidate) _ place column (pushed .0)) in (
+      taken P (at .state) (at .x) (at .candidate) _ _ _ cost (c .before .before .before .before .before .better .ensures)
+          (c .before .before .before .before .if2 .taken) _ next (c .accepted .ensures),
       moves (at .altitude) _ _ (at .state .lambda) (at .x) (at .candidate) _ place (c .accepted .ensures),
     )
 

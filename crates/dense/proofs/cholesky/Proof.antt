@@ -1,4 +1,5 @@
--- `dense::cholesky` meets its contract. The invariant: l holds the factor's columns below j, none of them refused, and keeps its length. What a pivot does to it is `next` and `stopped`. The measure is what is left of n. Assumes nothing.
+-- `dense::cholesky` meets its contract. The invariant: l holds the factor's columns below j, none of them refused, and keeps its length. What a pivot
+-- does to it is `next` and `stopped`. The measure is what is left of n. Assumes nothing.
 use borrow.Author.Needs.{needs}
 use mathlib.Core.Path.{_≡_, refl, sym}
 use Prim.Native.Nat.{_≤_, _-_}
@@ -72,11 +73,20 @@ loop-less c = omega arith
 
 loop-again : tie.Need-loop-again Inv-loop μ-loop
 loop-again c =
-    let above = rw (is-pivot (c .before .before .before .before .before .before .before .before .before .before)) at (c .before .before .before .before .before .before .before .before .before .if1 .taken) in
-    let more = next _ _ _ _ _ (c .before .before .before .before .before .before .before .before .before .before .before .before .before .before .loop .inv .2) above in (
+    let above = rw (is-pivot (c .before .before .before .before .before .before .before .before .before .before)) at
+    (c .before .before .before .before .before .before .before .before .before .if1 .taken) in
+    let more = next _ _ _ _ _ (c .before .before .before .before .before .before .before .before .before .before .before .before .before .before .loop
+    .inv .2) above in (
       omega arith,
       omega arith,
-      rw (add-one, more, c .before .before .column .ensures, c .before .before .before .before .before .before .put .ensures, c .before .before .before .before .before .before .before .before .sqrt .ensures, is-pivot (c .before .before .before .before .before .before .before .before .before .before)),
+      rw (
+        add-one,
+        more,
+        c .before .before .column .ensures,
+        c .before .before .before .before .before .before .put .ensures,
+        c .before .before .before .before .before .before .before .before .sqrt .ensures,
+        is-pivot (c .before .before .before .before .before .before .before .before .before .before),
+      ),
     )
 
 same-length-2 : tie.Need-same-length-2 Inv-loop μ-loop

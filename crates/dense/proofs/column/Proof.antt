@@ -1,4 +1,5 @@
--- `dense::column` meets its contract. The invariant: l holds the column's rows from j + 1 to below i, and keeps its length. The measure is what is left of n. Assumes nothing.
+-- `dense::column` meets its contract. The invariant: l holds the column's rows from j + 1 to below i, and keeps its length. The measure is what is
+-- left of n. Assumes nothing.
 use mathlib.Core.Path.{_≡_, refl}
 use Prim.Native.Nat.{suc, _≤_, _+_, _-_}
 use native.Mathlib.Nat.{mul-one, sub-self, add-sub-of-le}
@@ -26,7 +27,11 @@ mul-minus-dots : tie.Need-mul-minus-dots Inv-loop μ-loop
 mul-minus-dots c = omega (arith, start (c .before .before .loop .i) (c .before .before .before .before .before .args .n) (omega arith))
 
 mul-minus-dots-2 : tie.Need-mul-minus-dots-2 Inv-loop μ-loop
-mul-minus-dots-2 c = omega (arith, start (c .before .before .before .before .before .args .j) (c .before .before .before .before .before .args .n) (omega arith))
+mul-minus-dots-2 c = omega (
+  arith,
+  start (c .before .before .before .before .before .args .j)
+      (c .before .before .before .before .before .args .n) (omega arith),
+)
 
 at-requires : tie.Need-at-requires Inv-loop μ-loop
 at-requires c κs = omega arith
@@ -56,7 +61,14 @@ loop-again c =
       omega arith,
       omega arith,
       omega arith,
-      rw (next, add-sub-of-le (loop .inv .0), ← loop .inv .3, c .before .before .put .ensures, c .before .before .before .before .minus-dots .ensures, c .before .before .before .before .before .at .ensures) (simp mul-one),
+      rw (
+        next,
+        add-sub-of-le (loop .inv .0),
+        ← loop .inv .3,
+        c .before .before .put .ensures,
+        c .before .before .before .before .minus-dots .ensures,
+        c .before .before .before .before .before .at .ensures,
+      ) (simp mul-one),
     )
 
 same-length : tie.Need-same-length Inv-loop μ-loop

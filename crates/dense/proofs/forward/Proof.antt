@@ -1,4 +1,5 @@
--- `dense::forward` meets its contract. The invariant: y holds the solution in its rows below i and b in the others (`forward-keeps`), and keeps its length. The measure is what is left of n. Assumes nothing.
+-- `dense::forward` meets its contract. The invariant: y holds the solution in its rows below i and b in the others (`forward-keeps`), and keeps its
+-- length. The measure is what is left of n. Assumes nothing.
 use mathlib.Core.Path.{_≡_, refl, sym}
 use Prim.Native.Nat.{_≤_, _-_}
 use native.Mathlib.Nat.{mul-one, zero-add}

@@ -1,4 +1,5 @@
--- `dense::inverse` meets its contract. The invariant: m holds the solutions of the unit vectors below `column` in its columns, and keeps its length. Each is solved in the first n of 32 entries (`unit-part`). The measure is what is left of n. Assumes nothing.
+-- `dense::inverse` meets its contract. The invariant: m holds the solutions of the unit vectors below `column` in its columns, and keeps its length.
+-- Each is solved in the first n of 32 entries (`unit-part`). The measure is what is left of n. Assumes nothing.
 use borrow.Author.Needs.{needs}
 use mathlib.Core.Path.{_≡_, refl, sym, ap, _∙_}
 use Prim.Native.Nat.{ℕ, _≤_, _-_}
@@ -76,7 +77,14 @@ loop-again c =
     let loop = c .before .before .before .before .before .before .before .before .before .loop in (
       omega arith,
       omega arith,
-      rw (add-one (loop .column), ← loop .inv .2, c .before .before .put-column .ensures, take-at _ _ _ (left (c .before .before .before .before .before)), c .before .before .before .before .before .before .solve .ensures, lent (c .before .before .before .before .before .before .before .before)),
+      rw (
+        add-one (loop .column),
+        ← loop .inv .2,
+        c .before .before .put-column .ensures,
+        take-at _ _ _ (left (c .before .before .before .before .before)),
+        c .before .before .before .before .before .before .solve .ensures,
+        lent (c .before .before .before .before .before .before .before .before),
+      ),
     )
 
 symmetrise-requires : tie.Need-symmetrise-requires Inv-loop μ-loop

@@ -1,4 +1,5 @@
--- `dense::put_column` meets its contract. The invariant: m holds x in the column's rows below `row`, and keeps its length. The measure is what is left of n. Assumes nothing.
+-- `dense::put_column` meets its contract. The invariant: m holds x in the column's rows below `row`, and keeps its length. The measure is what is
+-- left of n. Assumes nothing.
 use mathlib.Core.Path.{_≡_, refl}
 use Prim.Native.Nat.{_≤_, _-_}
 use native.Mathlib.Numerals.{add-one}

@@ -1,4 +1,5 @@
--- `dense::symmetrise` meets its contract. The invariant: the rows below `row` are symmetrised, and m keeps its length. The measure is what is left of n. Assumes nothing.
+-- `dense::symmetrise` meets its contract. The invariant: the rows below `row` are symmetrised, and m keeps its length. The measure is what is left of
+-- n. Assumes nothing.
 use mathlib.Core.Path.{_≡_, refl}
 use Prim.Native.Nat.{_≤_, _-_}
 use native.Mathlib.Numerals.{add-one}

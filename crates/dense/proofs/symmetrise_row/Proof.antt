@@ -1,4 +1,5 @@
--- `dense::symmetrise_row` meets its contract. The invariant: m holds the means of the columns from row + 1 to below `column`, and keeps its length. The measure is what is left of n. Assumes nothing.
+-- `dense::symmetrise_row` meets its contract. The invariant: m holds the means of the columns from row + 1 to below `column`, and keeps its length.
+-- The measure is what is left of n. Assumes nothing.
 use mathlib.Core.Path.{_≡_, refl}
 use Prim.Native.Nat.{suc, _≤_, _+_, _-_}
 use native.Mathlib.Nat.{sub-self, add-sub-of-le}
@@ -48,7 +49,15 @@ loop-again c =
       omega arith,
       omega arith,
       omega arith,
-      rw (next, add-sub-of-le (loop .inv .0), ← loop .inv .3, c .before .before .put2 .ensures, c .before .before .before .before .before .before .put .ensures, c .before .before .before .before .before .before .before .before .at2 .ensures, c .before .before .before .before .before .before .before .before .before .before .at .ensures),
+      rw (
+        next,
+        add-sub-of-le (loop .inv .0),
+        ← loop .inv .3,
+        c .before .before .put2 .ensures,
+        c .before .before .before .before .before .before .put .ensures,
+        c .before .before .before .before .before .before .before .before .at2 .ensures,
+        c .before .before .before .before .before .before .before .before .before .before .at .ensures,
+      ),
     )
 
 same-length : tie.Need-same-length Inv-loop μ-loop

@@ -30,7 +30,8 @@ turned-away-requires : tie.Need-turned-away-requires
 turned-away-requires c κs =
     let s = c .before .before .before .before .before .before .before .before in
     let check = c .before .before .before .check-inputs in
-    many-away (lent s (s .pre .0) (c .before .before .before .before .given .result)) _ (sym (check .ensures (s .pre .0) (s .pre .1)) ∙ c .before .found .given .1)
+    many-away (lent s (s .pre .0) (c .before .before .before .before .given .result)) _
+    (sym (check .ensures (s .pre .0) (s .pre .1)) ∙ c .before .found .given .1)
 
 enum-told : tie.Need-enum-told
 enum-told c = search needs
@@ -67,7 +68,8 @@ returns c = λ at held.
     let s = c .before .before .before .before .before .before .before .before .before in
     let given = c .before .before .before .before .before in
     let check = c .before .before .before .before .check-inputs in
-    refused-reply (lent s at (given .given .result)) (check .result) (check .ensures at held) (c .turned-away .result) _ (c .before .before .found .given .1) (c .turned-away .ensures)
+    refused-reply (lent s at (given .given .result)) (check .result) (check .ensures at held) (c .turned-away .result) _
+    (c .before .before .found .given .1) (c .turned-away .ensures)
     ∙ ap (λ (g : Given). reply (lent s at g)) (given .given .ensures)
 
 returns-2 : tie.Need-returns-2

@@ -15,7 +15,8 @@ use Rattle.entry.proofs.solve_fields.Statement.{statement}
 use Rattle.entry.proofs.solve_fields.Tie as tie
 
 abbrev lent : tie.Start → (ℕ → Reception) → Inputs
-lent s at = inputsOf (s .args .whole) (s .args .n) at (given (s .args .present)) (s .args .clock .now) (s .args .altitude .now) (s .args .reference .now)
+lent s at = inputsOf (s .args .whole) (s .args .n) at (given (s .args .present)) (s .args .clock .now) (s .args .altitude .now)
+    (s .args .reference .now)
 
 returns : tie.Need-returns
 returns c = λ at held.

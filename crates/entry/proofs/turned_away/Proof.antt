@@ -17,13 +17,17 @@ refused-requires : tie.Need-refused-requires
 refused-requires c κs = search needs
 
 returns : tie.Need-returns
-returns c = away-reply (c .refused .result) (c .before .before .before .before .args .fault) (c .before .before .before .number-of .result) (c .before .before .detail-of .result) (c .before .before .before .before .args .n) (c .before .before .before .number-of .ensures) (c .before .before .detail-of .ensures) (c .refused .ensures)
+returns c = away-reply (c .refused .result) (c .before .before .before .before .args .fault) (c .before .before .before .number-of .result)
+    (c .before .before .detail-of .result) (c .before .before .before .before .args .n) (c .before .before .before .number-of .ensures)
+    (c .before .before .detail-of .ensures) (c .refused .ensures)
 
 refused-requires-2 : tie.Need-refused-requires-2
 refused-requires-2 c κs = search needs
 
 returns-2 : tie.Need-returns-2
-returns-2 c = bare-reply (c .refused2 .result) (c .before .before .before .before .args .fault) (c .before .before .before .number-of .result) (c .before .before .detail-of .result) (c .before .before .before .before .args .n) (c .before .before .before .number-of .ensures) (c .before .before .detail-of .ensures) (c .before .before .before .before .pre (c .before .if1 .left)) (c .refused2 .ensures)
+returns-2 c = bare-reply (c .refused2 .result) (c .before .before .before .before .args .fault) (c .before .before .before .number-of .result)
+    (c .before .before .detail-of .result) (c .before .before .before .before .args .n) (c .before .before .before .number-of .ensures)
+    (c .before .before .detail-of .ensures) (c .before .before .before .before .pre (c .before .if1 .left)) (c .refused2 .ensures)
 
 pub turned-away-spec : {M : Type 1} → statement M
 turned-away-spec =

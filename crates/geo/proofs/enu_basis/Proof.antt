@@ -21,7 +21,12 @@ unfolding enuBasis
 returns c =
     let at-sincos2 = c .before .before .before .before .before .before .before .before .before in
     let at-sincos = at-sincos2 .before .before in
-    rw (← at-sincos .before .to-radians .ensures, ← at-sincos .sincos .ensures, ← at-sincos2 .before .to-radians2 .ensures, ← at-sincos2 .sincos2 .ensures)
+    rw (
+      ← at-sincos .before .to-radians .ensures,
+      ← at-sincos .sincos .ensures,
+      ← at-sincos2 .before .to-radians2 .ensures,
+      ← at-sincos2 .sincos2 .ensures,
+    )
 
 pub enu-basis-spec : {M : Type 1} → statement M
 enu-basis-spec = tie.close (tie.spec to-radians-requires sincos-requires to-radians-requires-2 sincos-requires-2 returns)

@@ -1,5 +1,5 @@
--- `geo::from_ecef` meets its contract. The loop's invariant: after k rounds height and x are those of `roundsTo`, and lat is the arc tangent of z / x. Where a round hands x back, `settled` has the
--- rounds that are left. Assumes nothing.
+-- `geo::from_ecef` meets its contract. The loop's invariant: after k rounds height and x are those of `roundsTo`, and lat is the arc tangent of z /
+-- x. Where a round hands x back, `settled` has the rounds that are left. Assumes nothing.
 use mathlib.Core.Path.{_≡_}
 use Prim.Native.Nat.{_-_, _≤_}
 use native.Mathlib.Omega.{arith}
@@ -78,7 +78,8 @@ to-degrees-requires-2 : tie.Need-to-degrees-requires-2 Inv-loop μ-loop
 to-degrees-requires-2 c κs = search needs
 
 -- where the loop is left
-last : (c : tie.Left-loop Inv-loop μ-loop) → roundsTo (c .before .before .before .hypot .result) (getD (c .before .before .before .before .before .args .t1) 2 nan) 6 ≡ record { height = c .loop-test .height; x = c .before .loop .x }
+last : (c : tie.Left-loop Inv-loop μ-loop) → roundsTo (c .before .before .before .hypot .result)
+    (getD (c .before .before .before .before .before .args .t1) 2 nan) 6 ≡ record { height = c .loop-test .height; x = c .before .loop .x }
 last c =
     let inv = c .before .loop .inv in
     elim (c .loop-test .came) [
@@ -91,7 +92,14 @@ unfolding fromEcef
 returns c =
     let left = c .before .before in
     let start = left .before .before .before in
-    rw (c .to-degrees2 .ensures, c .before .to-degrees .ensures, ← start .before .atan2 .ensures, ← start .hypot .ensures, last left, ← left .before .loop .inv .2)
+    rw (
+      c .to-degrees2 .ensures,
+      c .before .to-degrees .ensures,
+      ← start .before .atan2 .ensures,
+      ← start .hypot .ensures,
+      last left,
+      ← left .before .loop .inv .2,
+    )
 
 pub from-ecef-spec : {M : Type 1} → statement M
 from-ecef-spec =

@@ -20,7 +20,14 @@ abs-requires-3 c κs = search needs
 
 returns-2 : tie.Need-returns-2
 unfolding height
-returns-2 c = simp (nano, eccentricity, ← c .before .before .before .abs .ensures, c .before .before .if1 .left, ← c .before .abs2 .ensures, ← c .abs3 .ensures)
+returns-2 c = simp (
+  nano,
+  eccentricity,
+  ← c .before .before .before .abs .ensures,
+  c .before .before .if1 .left,
+  ← c .before .abs2 .ensures,
+  ← c .abs3 .ensures,
+)
 
 pub height-spec : {M : Type 1} → statement M
 height-spec = tie.close (tie.spec abs-requires returns abs-requires-2 abs-requires-3 returns-2)

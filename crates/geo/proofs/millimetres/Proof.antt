@@ -1,4 +1,5 @@
--- `geo::millimetres` meets its contract. The two tests are what the truncation asks for, and beyond them the cast stops at the ends of its range (`cast-most`, `cast-least`, `cast-nan`). Assumes nothing.
+-- `geo::millimetres` meets its contract. The two tests are what the truncation asks for, and beyond them the cast stops at the ends of its range
+-- (`cast-most`, `cast-least`, `cast-nan`). Assumes nothing.
 use mathlib.Core.Path.{sym, ap, subst, _∙_}
 use lib.Dec.{T}
 use lib.Ieee.{neg, toSigned, ofBits}

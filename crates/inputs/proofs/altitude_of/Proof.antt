@@ -46,7 +46,12 @@ returns c =
     (c .corrected .ensures)
 
 returns-2 : tie.Need-returns-2
-returns-2 c = rw (c .before .before .before .if1 .taken, ← c .before .before .metres-at .ensures, ← c .before .kind-at .ensures, ne-eqb _ _ (c .if2 .left))
+returns-2 c = rw (
+  c .before .before .before .if1 .taken,
+  ← c .before .before .metres-at .ensures,
+  ← c .before .kind-at .ensures,
+  ne-eqb _ _ (c .if2 .left),
+)
 
 returns-3 : tie.Need-returns-3
 returns-3 c = search needs

@@ -22,7 +22,8 @@ check-rows-requires : tie.Need-check-rows-requires
 check-rows-requires c κs = search needs
 
 returns-3 : tie.Need-returns-3
-returns-3 c = rw (not-false (c .before .before .before .before .args .there) (c .before .before .if1 .left), eq-eqb _ _ (c .before .if2 .left)) (c .check-rows .ensures)
+returns-3 c = rw (not-false (c .before .before .before .before .args .there) (c .before .before .if1 .left), eq-eqb _ _ (c .before .if2 .left))
+    (c .check-rows .ensures)
 
 pub check-clock-spec : {M : Type 1} → statement M
 check-clock-spec =

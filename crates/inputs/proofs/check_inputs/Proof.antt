@@ -23,7 +23,8 @@ came-whole c at =
     let second = c .before .before in
     let first = second .before .before in
     let start = first .before .before .before .before in
-    all-whole (lent start at) (not-false (start .args .whole) (first .if1 .left)) (altitude-whole second at) (sym (c .before .sized2 .ensures) ∙ not-false (c .before .sized2 .result) (c .if3 .left))
+    all-whole (lent start at) (not-false (start .args .whole) (first .if1 .left)) (altitude-whole second at)
+    (sym (c .before .sized2 .ensures) ∙ not-false (c .before .sized2 .result) (c .if3 .left))
 
 returns : tie.Need-returns
 returns c = λ at held.
@@ -47,7 +48,8 @@ returns-3 c = λ at held.
     torn I (torn-3 I (sym (c .before .sized2 .ensures) ∙ not-true (c .before .sized2 .result) (c .if3 .taken)))
 
 returns-4 : tie.Need-returns-4
-returns-4 c = λ at held. many (lent (c .before .before .before .before .before .before .before .before .before) at) (came-whole (c .before) at) (lt-leb _ _ (c .if4 .taken))
+returns-4 c = λ at held. many (lent (c .before .before .before .before .before .before .before .before .before) at) (came-whole (c .before) at)
+    (lt-leb _ _ (c .if4 .taken))
 
 check-receptions-requires : tie.Need-check-receptions-requires
 check-receptions-requires c κs = search needs

@@ -34,8 +34,11 @@ loop-less c = omega arith
 loop-again : tie.Need-loop-again Inv-loop μ-loop
 loop-again c =
     let turn = c .before .before .before in
-    let a = turn .before .before .args in
-    (omega arith, c .or-else .ensures ∙ rw (turn .loop .inv .1, c .before .check-row .ensures) (first-next (checkRow (a .clock .now) (a .n)) (turn .loop .i)))
+    let a = turn .before .before .args in (
+      omega arith,
+      c .or-else .ensures ∙ rw (turn .loop .inv .1, c .before .check-row .ensures)
+          (first-next (checkRow (a .clock .now) (a .n)) (turn .loop .i)),
+    )
 
 returns : tie.Need-returns Inv-loop μ-loop
 returns c = let e : c .before .loop .i ≡ c .before .before .before .args .n = omega arith in rw e at (c .before .loop .inv .1)

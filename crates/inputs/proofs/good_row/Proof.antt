@@ -1,4 +1,5 @@
--- `inputs::good_row` meets its contract: the tests so far are those of the entries from the diagonal to the one before j (`row-next`). Assumes nothing.
+-- `inputs::good_row` meets its contract: the tests so far are those of the entries from the diagonal to the one before j (`row-next`). Assumes
+-- nothing.
 use borrow.Author.Needs.{needs}
 use mathlib.Core.Path.{_≡_, _∙_}
 use Prim.Native.Nat.{_-_, _≤_}
@@ -39,7 +40,8 @@ loop-again c =
       omega arith,
       omega arith,
       c .both .ensures
-          ∙ rw (turn .loop .inv .2, c .before .good-entry .ensures, c .before .before .entry-at .ensures) (row-next (a .clock .now) (a .n) (a .i) (turn .loop .j) (turn .loop .inv .0)),
+          ∙ rw (turn .loop .inv .2, c .before .good-entry .ensures, c .before .before .entry-at .ensures)
+          (row-next (a .clock .now) (a .n) (a .i) (turn .loop .j) (turn .loop .inv .0)),
     )
 
 returns : tie.Need-returns Inv-loop μ-loop

@@ -36,8 +36,11 @@ loop-less c = omega arith
 
 loop-again : tie.Need-loop-again Inv-loop μ-loop
 loop-again c =
-    let turn = c .before .before .before .before .before in
-    (omega arith, metres-next (turn .before .args .mm .now) (turn .loop .i) (turn .loop .inv .1) (c .before .before .before .site-in .ensures) (c .before .from-mm .ensures) (c .put-metres .ensures))
+    let turn = c .before .before .before .before .before in (
+      omega arith,
+      metres-next (turn .before .args .mm .now) (turn .loop .i) (turn .loop .inv .1) (c .before .before .before .site-in .ensures)
+          (c .before .from-mm .ensures) (c .put-metres .ensures),
+    )
 
 returns : tie.Need-returns Inv-loop μ-loop
 returns c = let e : c .before .loop .i ≡ c .before .before .args .n = omega arith in rw e at (c .before .loop .inv .1)

@@ -7,7 +7,11 @@ use Rattle.inputs.proofs.reference_of.Statement.{statement}
 use Rattle.inputs.proofs.reference_of.Tie as tie
 
 i64-at-requires : tie.Need-i64-at-requires
-i64-at-requires c κs = omega (arith, sized-there 8 (c .before .before .args .there) (c .before .before .args .reference .now) (c .if1 .taken) (c .before .before .pre))
+i64-at-requires c κs = omega (
+  arith,
+  sized-there 8 (c .before .before .args .there) (c .before .before .args .reference .now) (c .if1 .taken)
+      (c .before .before .pre),
+)
 
 returns : tie.Need-returns
 returns c = rw (toZ-ofZ w64 (c .i64-at .result) (record { sfits = c .i64-at .ok }), c .before .if1 .taken) (c .i64-at .ensures)

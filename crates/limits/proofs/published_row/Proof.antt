@@ -22,7 +22,14 @@ inflated-requires-3 : tie.Need-inflated-requires-3
 inflated-requires-3 c κs = search needs
 
 returns : tie.Need-returns
-returns c = rw (c .inflated3 .ensures, c .before .at3 .ensures, c .before .before .before .inflated2 .ensures, c .before .before .before .before .at2 .ensures, c .before .before .before .before .before .before .inflated .ensures, c .before .before .before .before .before .before .before .at .ensures)
+returns c = rw (
+  c .inflated3 .ensures,
+  c .before .at3 .ensures,
+  c .before .before .before .inflated2 .ensures,
+  c .before .before .before .before .at2 .ensures,
+  c .before .before .before .before .before .before .inflated .ensures,
+  c .before .before .before .before .before .before .before .at .ensures,
+)
 
 pub published-row-spec : {M : Type 1} → statement M
 published-row-spec = tie.close (tie.spec at-requires inflated-requires at-requires-2 inflated-requires-2 at-requires-3 inflated-requires-3 returns)

@@ -60,7 +60,8 @@ sqrt-requires : tie.Need-sqrt-requires Inv-loop μ-loop
 sqrt-requires c κs = search needs
 
 returns : tie.Need-returns Inv-loop μ-loop
-returns c = let e : c .before .before .loop .k ≡ c .before .before .before .args .rows = omega arith in rw (← e, ← c .before .before .loop .inv .1, c .sqrt .ensures)
+returns c = let e : c .before .before .loop .k ≡ c .before .before .before .args .rows = omega arith in
+    rw (← e, ← c .before .before .loop .inv .1, c .sqrt .ensures)
 
 pub rounding-norm-spec : {M : Type 1} → statement M
 rounding-norm-spec =

@@ -1,4 +1,5 @@
--- `problem::gather` meets its contract. The invariant: the first a values stand in their places. Each index is below 32 by what is asked. Assumes nothing.
+-- `problem::gather` meets its contract. The invariant: the first a values stand in their places. Each index is below 32 by what is asked. Assumes
+-- nothing.
 use borrow.Author.Needs.{needs}
 use mathlib.Core.Path.{_≡_, refl}
 use Prim.Native.Nat.{_≤_, _-_}

@@ -15,7 +15,14 @@ abbrev Inv-loop : tie.InvT-loop
 Inv-loop n list last₀ ascending₀ time₀ site-mm₀ z₀ noise-m2₀ filler₀ i₀ last ascending time site-mm z noise-m2 filler i =
     (i ≤ n)
     × ((last ≡ lastOf (listedAt list) i)
-    × (record { ascending = ascending; time = time; «site_mm» = site-mm; z = z; «noise_m2» = noise-m2; filler = filler } ≡ fieldsOf (listedAt list) i))
+    × (record {
+      ascending = ascending;
+      time = time;
+      «site_mm» = site-mm;
+      z = z;
+      «noise_m2» = noise-m2;
+      filler = filler;
+    } ≡ fieldsOf (listedAt list) i))
 
 abbrev μ-loop : tie.MeasureT-loop
 μ-loop n list last₀ ascending₀ time₀ site-mm₀ z₀ noise-m2₀ filler₀ i₀ last ascending time site-mm z noise-m2 filler i = n - i

@@ -16,7 +16,14 @@ abbrev Inv-loop : tie.InvT-loop
 Inv-loop receptions n last₀ ascending₀ time₀ site-mm₀ z₀ noise-m2₀ filler₀ i₀ last ascending time site-mm z noise-m2 filler i =
     (i ≤ n)
     × ((last ≡ lastOf (receptionAt receptions) i)
-    × (record { ascending = ascending; time = time; «site_mm» = site-mm; z = z; «noise_m2» = noise-m2; filler = filler } ≡ fieldsOf (receptionAt receptions) i))
+    × (record {
+      ascending = ascending;
+      time = time;
+      «site_mm» = site-mm;
+      z = z;
+      «noise_m2» = noise-m2;
+      filler = filler;
+    } ≡ fieldsOf (receptionAt receptions) i))
 
 abbrev μ-loop : tie.MeasureT-loop
 μ-loop receptions n last₀ ascending₀ time₀ site-mm₀ z₀ noise-m2₀ filler₀ i₀ last ascending time site-mm z noise-m2 filler i = n - i
@@ -85,7 +92,8 @@ loop-again c =
       (
         ap (λ (r : Reception). r .id) (read .reception-at .ensures) ∙ last-next at i,
         rw (toZ-ofZ w64 (read .reception-at .result .time) (record { sfits = told .struct-told .given .1 .0 .1 }), c .put-site .ensures)
-            (fields-next at i (turn .loop .inv .1 .1) (read .reception-at .ensures) (turn .loop .inv .1 .0) (ascends .ascends .ensures) (marked .marked .ensures)),
+            (fields-next at i (turn .loop .inv .1 .1) (read .reception-at .ensures) (turn .loop .inv .1 .0) (ascends .ascends .ensures)
+            (marked .marked .ensures)),
       ),
     )
 

@@ -19,7 +19,12 @@ put-f64-requires : tie.Need-put-f64-requires
 put-f64-requires c κs = search needs
 
 returns : tie.Need-returns
-returns c = rw (c .put-f64 .ensures, c .before .metres .ensures, c .before .before .before .kind .ensures, c .before .before .before .before .put-u16 .ensures)
+returns c = rw (
+  c .put-f64 .ensures,
+  c .before .metres .ensures,
+  c .before .before .before .kind .ensures,
+  c .before .before .before .before .put-u16 .ensures,
+)
 
 pub put-foot-spec : {M : Type 1} → statement M
 put-foot-spec = tie.close (tie.spec put-u16-requires kind-requires element-write-r metres-requires put-f64-requires returns)

@@ -38,7 +38,8 @@ loop-again c =
     let r = c .before .before .args .t2 in (
       omega arith,
       rw length-set (c .before .loop .inv .1),
-      ap (λ (l : List ℕ). set l i (getD r i 0)) (c .before .loop .inv .2) ∙ copy-next r (now (c .before .before .args .out)) i (omega arith) (omega arith),
+      ap (λ (l : List ℕ). set l i (getD r i 0)) (c .before .loop .inv .2)
+          ∙ copy-next r (now (c .before .before .args .out)) i (omega arith) (omega arith),
     )
 
 same-length : tie.Need-same-length Inv-loop μ-loop

@@ -1,4 +1,5 @@
--- `rounds::outlier_rounds` meets its contract. The invariant: from the state, the rounds that are left give the answer (`Left`), whichever are kept. Assumes nothing.
+-- `rounds::outlier_rounds` meets its contract. The invariant: from the state, the rounds that are left give the answer (`Left`), whichever are kept.
+-- Assumes nothing.
 use borrow.Author.Needs.{needs}
 use mathlib.Core.Path.{_≡_, sym, ap, subst, _∙_}
 use Prim.Native.Nat.{ℕ, _+_, _*_, _-_, _^_, _≤_, _<_}
@@ -16,7 +17,8 @@ use Rattle.rounds.proofs.outlier_rounds.Statement.{statement}
 use Rattle.rounds.proofs.outlier_rounds.Tie as tie
 
 abbrev Inv-loop : tie.InvT-loop
-Inv-loop site z noise clock n altitude reference kept rounds state₀ k₀ state k = (k ≤ rounds) × (state .included < 2 ^ n) × ((ref : ℤ) (l : n ≤ 32) → Left (receptions site z noise clock n altitude) kept ref l (rounds - k) state)
+Inv-loop site z noise clock n altitude reference kept rounds state₀ k₀ state k = (k ≤ rounds) × (state .included < 2 ^ n)
+    × ((ref : ℤ) (l : n ≤ 32) → Left (receptions site z noise clock n altitude) kept ref l (rounds - k) state)
 
 abbrev μ-loop : tie.MeasureT-loop
 μ-loop site z noise clock n altitude reference kept rounds state₀ k₀ state k = rounds - k
@@ -37,7 +39,13 @@ first-requires : tie.Need-first-requires Inv-loop μ-loop
 first-requires c κs = search needs
 
 loop-holds : tie.Need-loop-holds Inv-loop μ-loop
-loop-holds c = (omega arith, subst (λ (s : State). s .included < 2 ^ c .before .before .args .n) (sym (c .first .ensures)) (c .before .before .pre .1), λ ref l. left-start (heard (c .before .before)) (c .before .before .args .kept) ref l (c .first .result) (c .before .count .result) (c .first .ensures) (c .before .before .pre .1) (c .before .count .ensures))
+loop-holds c = (
+  omega arith,
+  subst (λ (s : State). s .included < 2 ^ c .before .before .args .n) (sym (c .first .ensures))
+      (c .before .before .pre .1),
+  λ ref l. left-start (heard (c .before .before)) (c .before .before .args .kept) ref l (c .first .result)
+      (c .before .count .result) (c .first .ensures) (c .before .before .pre .1) (c .before .count .ensures),
+)
 
 round-requires : tie.Need-round-requires Inv-loop μ-loop
 round-requires c κs = (c .before .before .before .before .pre .0, c .before .loop .inv .1)
@@ -53,7 +61,10 @@ returns c =
     let s = c .before .before .before .before .before .before .before .before .before .before .before in
     let at = c .before .before .before .before .before .before .before .before .loop in
     let made = c .before .before .before .before .before .before .round in
-    c .refused .ensures ∙ ap asAnswer (left-ends (heard s) (s .args .kept) (s .args .reference) (s .pre .0) (at .k) (2 * c .before .before .before .before .before .before .before .before .before .before .count .result + 2) (at .state) (made .result .turn) (made .result .fit) (made .ensures .0 .0 (s .args .reference)) (c .before .before .before .before .before .before .before .loop-test .taken) (at .inv .2 (s .args .reference) (s .pre .0)) _ (c .before .before .turn .given .1))
+    c .refused .ensures ∙ ap asAnswer (left-ends (heard s) (s .args .kept) (s .args .reference) (s .pre .0) (at .k)
+    (2 * c .before .before .before .before .before .before .before .before .before .before .count .result + 2) (at .state) (made .result .turn)
+    (made .result .fit) (made .ensures .0 .0 (s .args .reference)) (c .before .before .before .before .before .before .before .loop-test .taken)
+    (at .inv .2 (s .args .reference) (s .pre .0)) _ (c .before .before .turn .given .1))
 
 enum-known-turn-2 : tie.Need-enum-known-turn-2 Inv-loop μ-loop
 enum-known-turn-2 c = search needs
@@ -62,7 +73,11 @@ changed-requires : tie.Need-changed-requires Inv-loop μ-loop
 changed-requires c κs = search needs
 
 add-k : tie.Need-add-k Inv-loop μ-loop
-add-k c = omega (arith, c .before .before .before .before .before .before .before .before .before .before .count .ensures, count-le (has (c .before .before .before .before .before .before .before .before .before .before .before .args .kept)) 32)
+add-k c = omega (
+  arith,
+  c .before .before .before .before .before .before .before .before .before .before .count .ensures,
+  count-le (has (c .before .before .before .before .before .before .before .before .before .before .before .args .kept)) 32,
+)
 
 loop-less : tie.Need-loop-less Inv-loop μ-loop
 loop-less c = search needs
@@ -76,14 +91,21 @@ loop-again c =
     let next = c .changed in (
       omega (arith, c .before .before .before .before .before .before .before .loop-test .taken),
       subst (λ (u : State). u .included < 2 ^ s .args .n) (sym (next .ensures)) (made .ensures .0 .1 _ is),
-      λ ref l. left-changes (heard s) (s .args .kept) ref l (at .k) (2 * c .before .before .before .before .before .before .before .before .before .before .count .result + 2) (at .state) (made .result .turn) (made .result .fit) (made .ensures .0 .0 ref) (c .before .before .before .before .before .before .before .loop-test .taken) (at .inv .2 ref l) _ is (next .result) (next .ensures),
+      λ ref l. left-changes (heard s) (s .args .kept) ref l (at .k)
+          (2 * c .before .before .before .before .before .before .before .before .before .before .count .result + 2) (at .state) (made .result .turn)
+          (made .result .fit) (made .ensures .0 .0 ref) (c .before .before .before .before .before .before .before .loop-test .taken)
+          (at .inv .2 ref l) _ is (next .result) (next .ensures),
     )
 
 enum-told : tie.Need-enum-told Inv-loop μ-loop
 enum-told c = search needs
 
 settled-requires : tie.Need-settled-requires Inv-loop μ-loop
-settled-requires c κs = (c .before .before .before .before .before .before .before .before .before .pre .0, c .before .before .before .before .before .before .loop .inv .1, c .before .before .before .before .round .ensures .1 (c .enum-told .given .1))
+settled-requires c κs = (
+  c .before .before .before .before .before .before .before .before .before .pre .0,
+  c .before .before .before .before .before .before .loop .inv .1,
+  c .before .before .before .before .round .ensures .1 (c .enum-told .given .1),
+)
 
 of-finished-requires : tie.Need-of-finished-requires Inv-loop μ-loop
 of-finished-requires c κs = search needs
@@ -93,8 +115,12 @@ returns-2 c =
     let s = c .before .before .before .before .before .before .before .before .before .before .before in
     let at = c .before .before .before .before .before .before .before .before .loop in
     let made = c .before .before .before .before .before .before .round in
-    c .of-finished .ensures (later (heard s) (s .args .reference) (has (at .state .included)) (made .result .fit)) (rw (toZ-ofZ w64 (s .args .reference) (s .fits .reference)) at (c .before .settled .ensures))
-    ∙ ap asAnswer (left-settles (heard s) (s .args .kept) (s .args .reference) (s .pre .0) (at .k) (2 * c .before .before .before .before .before .before .before .before .before .before .count .result + 2) (at .state) (made .result .turn) (made .result .fit) (made .ensures .0 .0 (s .args .reference)) (c .before .before .before .before .before .before .before .loop-test .taken) (at .inv .2 (s .args .reference) (s .pre .0)) (c .before .before .enum-told .given .1))
+    c .of-finished .ensures (later (heard s) (s .args .reference) (has (at .state .included)) (made .result .fit))
+    (rw (toZ-ofZ w64 (s .args .reference) (s .fits .reference)) at (c .before .settled .ensures))
+    ∙ ap asAnswer (left-settles (heard s) (s .args .kept) (s .args .reference) (s .pre .0) (at .k)
+    (2 * c .before .before .before .before .before .before .before .before .before .before .count .result + 2) (at .state) (made .result .turn)
+    (made .result .fit) (made .ensures .0 .0 (s .args .reference)) (c .before .before .before .before .before .before .before .loop-test .taken)
+    (at .inv .2 (s .args .reference) (s .pre .0)) (c .before .before .enum-told .given .1))
 
 no-fixed-point-requires : tie.Need-no-fixed-point-requires Inv-loop μ-loop
 no-fixed-point-requires c κs = search needs
@@ -103,7 +129,9 @@ returns-3 : tie.Need-returns-3 Inv-loop μ-loop
 returns-3 c =
     let s = c .before .before .before .before .before in
     let at = c .before .before .loop in
-    c .no-fixed-point .ensures ∙ ap asAnswer (left-never (heard s) (s .args .kept) (s .args .reference) (s .pre .0) (at .k) (2 * c .before .before .before .before .count .result + 2) (at .state) (c .before .loop-test .left) (at .inv .2 (s .args .reference) (s .pre .0)))
+    c .no-fixed-point .ensures ∙ ap asAnswer (left-never (heard s) (s .args .kept) (s .args .reference) (s .pre .0) (at .k)
+    (2 * c .before .before .before .before .count .result + 2) (at .state) (c .before .loop-test .left)
+    (at .inv .2 (s .args .reference) (s .pre .0)))
 
 pub outlier-rounds-spec : {M : Type 1} → statement M
 outlier-rounds-spec =

@@ -1,4 +1,5 @@
--- `screen::clash` meets its contract: the distances are the definition's, and the pair passes where its baseline is at least the least that passes (`clash-is`). Assumes nothing.
+-- `screen::clash` meets its contract: the distances are the definition's, and the pair passes where its baseline is at least the least that passes
+-- (`clash-is`). Assumes nothing.
 use denote.Ref.{now}
 use borrow.Author.Needs.{needs}
 use Rattle.screen.proofs.Reach.{clash-is}

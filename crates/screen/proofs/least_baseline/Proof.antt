@@ -1,4 +1,5 @@
--- `screen::least_baseline` meets its contract: both answers are what light goes in the gap less the margin, cut off at zero (`passes-from`). Assumes nothing.
+-- `screen::least_baseline` meets its contract: both answers are what light goes in the gap less the margin, cut off at zero (`passes-from`). Assumes
+-- nothing.
 use native.Mathlib.Omega.{arith}
 use borrow.Author.Needs.{needs}
 use Rattle.screen.proofs.Reach.{passes-from}

@@ -79,7 +79,8 @@ mul-requires-3 c κs = search needs
 add-requires-2 : tie.Need-add-requires-2
 add-requires-2 c κs =
     let x = c .before .before .before in
-    rw (value-of (c .before .add .ensures), value-of (x .mul .ensures), value-of (c .before .before .mul2 .ensures), value-of (c .mul3 .ensures)) (short (x .before) .1)
+    rw (value-of (c .before .add .ensures), value-of (x .mul .ensures), value-of (c .before .before .mul2 .ensures), value-of (c .mul3 .ensures))
+    (short (x .before) .1)
 
 mul-requires-4 : tie.Need-mul-requires-4
 mul-requires-4 c κs = search needs
@@ -96,7 +97,14 @@ returns-5 c =
     let y = pair .before in
     let x = y .before in
     c .le .ensures
-    ∙ rw (value-of (least .mul4 .ensures), value-of (sum .add2 .ensures), value-of (pair .add .ensures), value-of (x .mul .ensures), value-of (y .mul2 .ensures), value-of (z .mul3 .ensures))
+    ∙ rw (
+      value-of (least .mul4 .ensures),
+      value-of (sum .add2 .ensures),
+      value-of (pair .add .ensures),
+      value-of (x .mul .ensures),
+      value-of (y .mul2 .ensures),
+      value-of (z .mul3 .ensures),
+    )
     (root-reaches (x .before .before .before .before .before .args .least) _)
 
 pub reaches-spec : {M : Type 1} → statement M

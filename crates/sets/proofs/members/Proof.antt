@@ -1,4 +1,5 @@
--- `sets::members` meets its contract. The invariant: the members below i are listed and k counts them, so that k is at most i (`count-le`), which is below 32. Assumes nothing.
+-- `sets::members` meets its contract. The invariant: the members below i are listed and k counts them, so that k is at most i (`count-le`), which is
+-- below 32. Assumes nothing.
 use borrow.Author.Needs.{needs}
 use mathlib.Core.Path.{_≡_, refl, sym, ap, ap₂, _∙_}
 use mathlib.Core.Logic.{⊎-elim}
@@ -18,7 +19,8 @@ abbrev Inv-loop : tie.InvT-loop
 Inv-loop mask n index₀ k₀ i₀ index k i = (i ≤ n) × (k ≡ count (has mask) i) × (index ≡ membersTo (has mask) index₀ i)
 
 -- the invariant of the next turn, where the index is counted by `suc`
-turned : (S : Subset) (index₀ : List ℕ) (i n : ℕ) {k : ℕ} {index : List ℕ} → i < n → k ≡ count S (suc i) → index ≡ membersTo S index₀ (suc i) → (i + 1 ≤ n) × (k ≡ count S (i + 1)) × (index ≡ membersTo S index₀ (i + 1))
+turned : (S : Subset) (index₀ : List ℕ) (i n : ℕ) {k : ℕ} {index : List ℕ} → i < n → k ≡ count S (suc i) → index ≡ membersTo S index₀ (suc i)
+    → (i + 1 ≤ n) × (k ≡ count S (i + 1)) × (index ≡ membersTo S index₀ (i + 1))
 turned S index₀ i n l a b = (omega arith, rw add-one a, rw add-one b)
 
 abbrev μ-loop : tie.MeasureT-loop
@@ -32,13 +34,16 @@ has-requires : tie.Need-has-requires Inv-loop μ-loop
 has-requires c κs = omega arith
 
 mul-index : tie.Need-mul-index Inv-loop μ-loop
-mul-index c = let at = c .before .before .before .loop in omega (arith, at .inv .1, count-le (has (c .before .before .before .before .args .mask)) (at .i))
+mul-index c = let at = c .before .before .before .loop in
+    omega (arith, at .inv .1, count-le (has (c .before .before .before .before .args .mask)) (at .i))
 
 element-write-index : tie.Need-element-write-index Inv-loop μ-loop
-element-write-index c = let at = c .before .before .before .loop in omega (arith, at .inv .1, count-le (has (c .before .before .before .before .args .mask)) (at .i))
+element-write-index c = let at = c .before .before .before .loop in
+    omega (arith, at .inv .1, count-le (has (c .before .before .before .before .args .mask)) (at .i))
 
 add-k : tie.Need-add-k Inv-loop μ-loop
-add-k c = let at = c .before .before .before .loop in omega (arith, at .inv .1, count-le (has (c .before .before .before .before .args .mask)) (at .i))
+add-k c = let at = c .before .before .before .loop in
+    omega (arith, at .inv .1, count-le (has (c .before .before .before .before .args .mask)) (at .i))
 
 add-i : tie.Need-add-i Inv-loop μ-loop
 add-i c = search needs
@@ -57,7 +62,8 @@ loop-again c =
     (w .2 ∙ ap (λ k. k + 1) (at .inv .1) ∙ add-one (count S (at .i)) ∙ sym (step .0))
     (w .1 ∙ ap₂ (λ v k. set v k (at .i)) (at .inv .2) (at .inv .1) ∙ sym (step .1)))
     (λ w. let step = skips S index₀ (at .i) (sym (c .before .has .ensures) ∙ w .0 .left) in
-    turned S index₀ (at .i) (c .before .before .before .before .args .n) (omega arith) (w .2 ∙ at .inv .1 ∙ sym (step .0)) (w .1 ∙ at .inv .2 ∙ sym (step .1)))
+    turned S index₀ (at .i) (c .before .before .before .before .args .n) (omega arith) (w .2 ∙ at .inv .1 ∙ sym (step .0))
+    (w .1 ∙ at .inv .2 ∙ sym (step .1)))
     (c .if1 .came)
 
 returns : tie.Need-returns Inv-loop μ-loop

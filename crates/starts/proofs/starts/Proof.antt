@@ -1,4 +1,5 @@
--- `starts::starts` meets its contract: from four on the lifted centroid is packed behind Bancroft's roots (`starts-many`), under four the ring behind it (`starts-few`). Assumes nothing.
+-- `starts::starts` meets its contract: from four on the lifted centroid is packed behind Bancroft's roots (`starts-many`), under four the ring behind
+-- it (`starts-few`). Assumes nothing.
 use borrow.Author.Needs.{needs}
 use native.Mathlib.Omega.{arith}
 use borrow.Author.Tests.{le-leb, lt-leb}
@@ -36,7 +37,8 @@ returns c =
     let height = above .before in
     let ground = height .before in
     let middle = ground .before in
-    starts-many _ _ _ _ _ _ _ _ _ _ _ (middle .centroid .ensures) (ground .from-ecef .ensures) (height .start-height .ensures) (above .lifted .ensures) (points .first .ensures)
+    starts-many _ _ _ _ _ _ _ _ _ _ _ (middle .centroid .ensures) (ground .from-ecef .ensures) (height .start-height .ensures)
+    (above .lifted .ensures) (points .first .ensures)
     (le-leb 4 (middle .before .args .k) (omega (arith, c .before .before .if1 .taken))) _ (c .before .with-bancroft .ensures) (c .push .ensures)
 
 enu-basis-requires : tie.Need-enu-basis-requires
@@ -56,8 +58,10 @@ returns-2 c =
     let height = above .before in
     let ground = height .before in
     let middle = ground .before in
-    starts-few _ _ _ _ _ _ _ _ _ _ _ (middle .centroid .ensures) (ground .from-ecef .ensures) (height .start-height .ensures) (above .lifted .ensures) (points .first .ensures)
-    (lt-leb 4 (middle .before .args .k) (omega (arith, c .before .before .before .if1 .left))) _ _ (c .before .before .enu-basis .ensures) (c .before .push2 .ensures) (c .with-ring .ensures)
+    starts-few _ _ _ _ _ _ _ _ _ _ _ (middle .centroid .ensures) (ground .from-ecef .ensures) (height .start-height .ensures) (above .lifted .ensures)
+    (points .first .ensures)
+    (lt-leb 4 (middle .before .args .k) (omega (arith, c .before .before .before .if1 .left))) _ _ (c .before .before .enu-basis .ensures)
+    (c .before .push2 .ensures) (c .with-ring .ensures)
 
 pub starts-spec : {M : Type 1} → statement M
 starts-spec =

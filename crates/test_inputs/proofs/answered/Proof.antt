@@ -16,7 +16,8 @@ use Rattle.test_inputs.proofs.answered.Tie as tie
 abbrev lent : tie.Start → Bool → Inputs
 lent s whole =
     let a = s .args in
-    inputsOf whole (length (a .receptions .now) / receptionBytes) (receptionAt (a .receptions .now)) (a .g) (a .clock .now) (a .altitude .now) (a .reference .now)
+    inputsOf whole (length (a .receptions .now) / receptionBytes) (receptionAt (a .receptions .now)) (a .g) (a .clock .now) (a .altitude .now)
+    (a .reference .now)
 
 unpacked-requires : tie.Need-unpacked-requires
 unpacked-requires c κs = search needs

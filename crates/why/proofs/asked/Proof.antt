@@ -96,7 +96,8 @@ returns-2 c =
           passed-verdict (I at) (check .result) (check .ensures at held) (p .result) passes (is at held) _ (told .0 (solveProblem (p .result)) solved)
           ∙ ap (λ (g : Given). verdict (lent s at g)) (given .given .ensures),
       λ at held.
-          passed-states (I at) (check .result) (check .ensures at held) (p .result) passes (is at held) (s .args .out .now) _ (told .1 (solveProblem (p .result)) solved)
+          passed-states (I at) (check .result) (check .ensures at held) (p .result) passes (is at held) (s .args .out .now) _
+          (told .1 (solveProblem (p .result)) solved)
           ∙ ap (λ (g : Given). states (lent s at g) (s .args .out .now)) (given .given .ensures),
     )
 

@@ -1,4 +1,5 @@
--- `wide::abs_diff` meets its contract: two places are as far apart as the numbers, and the difference of the greater and the lesser is their distance. Assumes nothing.
+-- `wide::abs_diff` meets its contract: two places are as far apart as the numbers, and the difference of the greater and the lesser is their
+-- distance. Assumes nothing.
 use mathlib.Core.Path.{_≡_}
 use Prim.Native.Nat.{_+_, _-_, _^_}
 use native.Mathlib.Omega.{arith}
@@ -20,7 +21,8 @@ sub-result : tie.Need-sub-result
 sub-result c = search needs
 
 apart : (c : tie.After-place2)
-    → natAbs (c .before .before .args .a -ℤ c .before .before .args .b) ≡ c .before .place .result - c .place2 .result + (c .place2 .result - c .before .place .result)
+    → natAbs (c .before .before .args .a -ℤ c .before .before .args .b) ≡ c .before .place .result - c .place2 .result
+    + (c .place2 .result - c .before .place .result)
 apart c =
     let s = c .before .before in
     distance (s .args .a) (s .args .b) (pos (2 ^ 63))

@@ -1,4 +1,5 @@
--- `wide::add` meets its contract: the low words' sum is below `a .lo` exactly where it wrapped, and as the whole sum is below 2 ^ 128, its high word fits, the carry counted. Assumes nothing.
+-- `wide::add` meets its contract: the low words' sum is below `a .lo` exactly where it wrapped, and as the whole sum is below 2 ^ 128, its high word
+-- fits, the carry counted. Assumes nothing.
 use native.Mathlib.Omega.{arith}
 use borrow.Author.Needs.{needs}
 use Rattle.wide.proofs.Words.{words, high-fits}

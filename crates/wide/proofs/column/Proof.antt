@@ -1,4 +1,5 @@
--- `wide::column` meets its contract: a product of two digits is at most (2 ^ 32 - 1) * (2 ^ 32 - 1), which leaves room in a word for a digit more. Assumes nothing.
+-- `wide::column` meets its contract: a product of two digits is at most (2 ^ 32 - 1) * (2 ^ 32 - 1), which leaves room in a word for a digit more.
+-- Assumes nothing.
 use Prim.Native.Nat.{_-_, _*_, _^_, _≤_}
 use mathlib.Core.Path.{refl}
 use native.Mathlib.Omega.{arith}

@@ -1,4 +1,5 @@
--- `wide::down` meets its contract: it ends where the square is not above the value, at zero if not before. The measure is x, which falls as its square is above the value, so that x is not zero. Assumes nothing.
+-- `wide::down` meets its contract: it ends where the square is not above the value, at zero if not before. The measure is x, which falls as its
+-- square is above the value, so that x is not zero. Assumes nothing.
 use Prim.Native.Nat.{_<_}
 use native.Mathlib.Omega.{arith}
 use borrow.Author.Needs.{needs}

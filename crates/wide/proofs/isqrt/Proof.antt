@@ -1,5 +1,5 @@
--- `wide::isqrt` meets its contract. The invariant: the square of x is not above the value, so x is below 2 ^ 36. The loop ends where the next square is above the value, and only the floored root
--- is such a number (`floored-unique`). Assumes nothing.
+-- `wide::isqrt` meets its contract. The invariant: the square of x is not above the value, so x is below 2 ^ 36. The loop ends where the next square
+-- is above the value, and only the floored root is such a number (`floored-unique`). Assumes nothing.
 use Prim.Native.Nat.{_-_, _*_, _^_, _≤_, _<_}
 use native.Mathlib.Omega.{arith}
 use borrow.Author.Needs.{needs}
@@ -48,7 +48,11 @@ loop-again c =
     (root-fits _ _ next (omega arith), next)
 
 returns : tie.Need-returns Inv-loop μ-loop
-returns c = floored-unique _ _ (c .before .before .before .loop .inv .1, above _ _ (c .before .before .mul .ensures) (c .before .le .ensures) (c .if1 .left))
+returns c = floored-unique _ _ (
+  c .before .before .before .loop .inv .1,
+  above _ _ (c .before .before .mul .ensures) (c .before .le .ensures) (c .if1 .left),
+)
 
 pub isqrt-spec : {M : Type 1} → statement M
-isqrt-spec = tie.close (tie.spec Inv-loop μ-loop guess-requires down-requires loop-holds add-mul add-mul-2 mul-requires le-requires add-x loop-less loop-again returns)
+isqrt-spec = tie.close (tie.spec Inv-loop μ-loop guess-requires down-requires loop-holds add-mul add-mul-2 mul-requires le-requires add-x loop-less
+    loop-again returns)

@@ -1,4 +1,5 @@
--- `wide::le` meets its contract: the low words decide between equal high words, and the high words otherwise, as a low word is below 2 ^ 64. Assumes nothing.
+-- `wide::le` meets its contract: the low words decide between equal high words, and the high words otherwise, as a low word is below 2 ^ 64. Assumes
+-- nothing.
 use native.Mathlib.Omega.{arith}
 use Rattle.wide.proofs.Words.{by-low, by-high}
 use Rattle.wide.proofs.le.Statement.{statement}

@@ -1,4 +1,5 @@
--- `wide::mul` meets its contract: a product by hand, column by column, whose carries are digits, so that each sum fits a word, and which add up to the whole (`columns`). Assumes nothing.
+-- `wide::mul` meets its contract: a product by hand, column by column, whose carries are digits, so that each sum fits a word, and which add up to
+-- the whole (`columns`). Assumes nothing.
 use native.Mathlib.Omega.{arith}
 use borrow.Author.Needs.{needs}
 use Rattle.wide.proofs.Words.{words}

@@ -1,4 +1,5 @@
--- `wide::place` meets its contract, by the sign of x: below zero -1 - x is from 0 to 2 ^ 63 - 1, for the least x too, so it fits. A signed number is read back from its bits by `toZ-ofZ`. Assumes nothing.
+-- `wide::place` meets its contract, by the sign of x: below zero -1 - x is from 0 to 2 ^ 63 - 1, for the least x too, so it fits. A signed number is
+-- read back from its bits by `toZ-ofZ`. Assumes nothing.
 use mathlib.Core.Path.{_≡_, sym, ap, _∙_}
 use mathlib.Core.Bool.{true}
 use Prim.Native.Nat.{_^_}

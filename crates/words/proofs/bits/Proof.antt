@@ -1,4 +1,5 @@
--- `words::bits` meets its contract: below zero the word lacks -1 - x of its greatest value (`below`); from zero on it is x (`above`). Assumes nothing.
+-- `words::bits` meets its contract: below zero the word lacks -1 - x of its greatest value (`below`); from zero on it is x (`above`). Assumes
+-- nothing.
 use native.Mathlib.Omega.{arith}
 use mir.Syntax.{w64}
 use mir.ValLaws.{toZ-ofZ}

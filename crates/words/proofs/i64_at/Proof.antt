@@ -1,4 +1,5 @@
--- `words::i64_at` meets its contract: from the sign on, the number is -1 less what the word lacks of its greatest value (`negative`). Assumes nothing.
+-- `words::i64_at` meets its contract: from the sign on, the number is -1 less what the word lacks of its greatest value (`negative`). Assumes
+-- nothing.
 use borrow.Author.Needs.{needs}
 use mathlib.Core.Path.{refl, _∙_}
 use Prim.Native.Nat.{_-_}

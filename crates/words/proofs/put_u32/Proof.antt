@@ -28,7 +28,8 @@ returns : tie.Need-returns
 unfolding putU32 putU16
 returns c =
     let a = c .before .before .before .before .before .before .before .before .before .args in
-    c .before .before .put-u162 .ensures ∙ rw (c .before .before .before .before .before .before .put-u16 .ensures) (sym (write-parts 2 2 (a .s .now) (a .k) (a .x)))
+    c .before .before .put-u162 .ensures ∙ rw (c .before .before .before .before .before .before .put-u16 .ensures)
+    (sym (write-parts 2 2 (a .s .now) (a .k) (a .x)))
 
 pub put-u32-spec : {M : Type 1} → statement M
 put-u32-spec =

@@ -28,7 +28,8 @@ returns : tie.Need-returns
 unfolding putU64 putU32
 returns c =
     let a = c .before .before .before .before .before .before .before .before .before .args in
-    c .before .before .put-u322 .ensures ∙ rw (c .before .before .before .before .before .before .put-u32 .ensures) (sym (write-parts 4 4 (a .s .now) (a .k) (a .x)))
+    c .before .before .put-u322 .ensures ∙ rw (c .before .before .before .before .before .before .put-u32 .ensures)
+    (sym (write-parts 4 4 (a .s .now) (a .k) (a .x)))
 
 pub put-u64-spec : {M : Type 1} → statement M
 put-u64-spec =

@@ -1,4 +1,5 @@
--- `binary64::rounding::round` meets its contract: from 2 ^ 52 on a value is whole (`large-half`); below, `whole` has the magnitude, which a cast writes exactly, and the sign comes back by `neg-round`. Assumes nothing.
+-- `binary64::rounding::round` meets its contract: from 2 ^ 52 on a value is whole (`large-half`); below, `whole` has the magnitude, which a cast
+-- writes exactly, and the sign comes back by `neg-round`. Assumes nothing.
 use mathlib.Core.Path.{_≡_, refl, sym, ap, _∙_, subst}
 use Prim.Native.Nat.{ℕ, _/_, _%_, _^_, _≤_}
 use native.Mathlib.Nat.{mod-lt}
@@ -35,10 +36,12 @@ module _ (x : Float) (good : fits binary64 x ≡ true) where
   whole-already lo =
       let r = b % 2 ^ 63 in
       subst (λ (v : Float). v ≡ halfAway v) parted
-      (sym (large-half (leb (2 ^ 63) b) (r / 2 ^ 52) (r % 2 ^ 52) (omega arith) (omega arith) (mod-lt r (pow-pos 52)) (subst (λ (v : Float). T (fits binary64 v)) (sym parted) (subst T (sym good) tt))))
+      (sym (large-half (leb (2 ^ 63) b) (r / 2 ^ 52) (r % 2 ^ 52) (omega arith) (omega arith) (mod-lt r (pow-pos 52))
+      (subst (λ (v : Float). T (fits binary64 v)) (sym parted) (subst T (sym good) tt))))
 
   -- below, where q is the magnitude rounded, and s the sign
-  rounded : (q : ℕ) → ((s : Bool) → halfAway (signed s (b % 2 ^ 63)) ≡ round binary64 s q 1) → (s : Bool) → leb (2 ^ 63) b ≡ s → round binary64 s q 1 ≡ halfAway x
+  rounded : (q : ℕ) → ((s : Bool) → halfAway (signed s (b % 2 ^ 63)) ≡ round binary64 s q 1) → (s : Bool) → leb (2 ^ 63) b ≡ s
+      → round binary64 s q 1 ≡ halfAway x
   rounded q h s e = sym (h s) ∙ ap (λ (t : Bool). halfAway (signed t (b % 2 ^ 63))) (sym e) ∙ ap halfAway parted
 
 cast : (q : ℕ) → ofInt binary64 (pos q) ≡ round binary64 false q 1

@@ -1,4 +1,5 @@
--- `binary64::rounding::whole` meets its contract: below a half it is 0 (`small-half`), and from there up a half is 2 ^ k of the units that m counts (`mid-half`). Assumes nothing.
+-- `binary64::rounding::whole` meets its contract: below a half it is 0 (`small-half`), and from there up a half is 2 ^ k of the units that m counts
+-- (`mid-half`). Assumes nothing.
 use mathlib.Core.Path.{_≡_, sym, ap, _∙_}
 use Prim.Native.Nat.{ℕ, _+_, _-_, _*_, _/_, _%_, _^_, _≤_, _<_}
 use native.Mathlib.Nat.{le-trans, one-mul, mod-lt, mod-eq-of-lt, lt-of-le-of-lt, mul-le-mul-left, div-mul-le-self}
@@ -33,9 +34,13 @@ result r lo hi =
     let e : k + x ≡ 1074 = omega arith in
     let o = one-shl k k-le in
     let n = bitAnd r 0xf_ffff_ffff_ffff + 2 ^ 52 + (1 * 2 ^ k) % 2 ^ 64 in
-    let same : r % 2 ^ 52 + 2 ^ 52 + 2 ^ k ≡ n = ap (λ (y : ℕ). y + 2 ^ 52 + 2 ^ k) (sym (and-mask r 52)) ∙ ap (λ (y : ℕ). bitAnd r 0xf_ffff_ffff_ffff + 2 ^ 52 + y) (sym (o .0)) in
-    let two : 2 ≤ 2 ^ (k + 1) = pow-mono {i = 1} {j = k + 1} (omega arith) in
-    (omega (arith, at-most n (2 ^ (k + 1)) two, mask-lt r 52), λ s. mid-half s x (r % 2 ^ 52) k lo e ∙ ap (λ (y : ℕ). round binary64 s (y / 2 ^ (k + 1)) 1) same)
+    let same : r % 2 ^ 52 + 2 ^ 52 + 2 ^ k ≡ n = ap (λ (y : ℕ). y + 2 ^ 52 + 2 ^ k) (sym (and-mask r 52))
+    ∙ ap (λ (y : ℕ). bitAnd r 0xf_ffff_ffff_ffff + 2 ^ 52 + y) (sym (o .0)) in
+    let two : 2 ≤ 2 ^ (k + 1) = pow-mono {i = 1} {j = k + 1} (omega arith) in (
+      omega (arith, at-most n (2 ^ (k + 1)) two, mask-lt r 52),
+      λ s. mid-half s x (r % 2 ^ 52) k lo e
+          ∙ ap (λ (y : ℕ). round binary64 s (y / 2 ^ (k + 1)) 1) same,
+    )
 
 returns : tie.Need-returns
 returns c = (search needs, λ s. small-half s _ _ (c .if1 .taken) (mod-lt _ (pow-pos 52)))

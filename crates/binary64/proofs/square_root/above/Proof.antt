@@ -1,4 +1,5 @@
--- `binary64::square_root::above` meets its contract: the square by two digits of 26 binary digits is the square (`fold-law`), and no partial product is too large for its type (`small`). Assumes nothing.
+-- `binary64::square_root::above` meets its contract: the square by two digits of 26 binary digits is the square (`fold-law`), and no partial product
+-- is too large for its type (`small`). Assumes nothing.
 use native.Mathlib.Omega.{arith}
 use borrow.Author.Needs.{needs}
 use Rattle.binary64.proofs.Fold.{small, fold-law}

@@ -1,4 +1,5 @@
--- `binary64::square_root::bisect` meets its contract. The invariant of its loop: the least r with m ≤ (r * r + r) / 2 ^ 52 lies above `low` and at or below `high`. Assumes nothing.
+-- `binary64::square_root::bisect` meets its contract. The invariant of its loop: the least r with m ≤ (r * r + r) / 2 ^ 52 lies above `low` and at or
+-- below `high`. Assumes nothing.
 use mathlib.Core.Path.{_≡_, ap}
 use Prim.Native.Nat.{ℕ, _+_, _-_, _*_, _/_, _^_, _≤_, _<_}
 use native.Mathlib.Nat.{le-div-iff-mul-le, div-lt-iff-lt-mul}
@@ -8,7 +9,8 @@ use Rattle.binary64.specs.Root.{Nearest}
 use Rattle.binary64.proofs.square_root.bisect.Statement.{statement}
 use Rattle.binary64.proofs.square_root.bisect.Tie as tie
 
-nearest : (low high m : ℕ) → low < high → high - low ≤ 1 → m ≤ (high * high + high) / 2 ^ 52 → (low * low + low) / 2 ^ 52 < m → Nearest (m * 2 ^ 52) high
+nearest : (low high m : ℕ) → low < high → high - low ≤ 1 → m ≤ (high * high + high) / 2 ^ 52 → (low * low + low) / 2 ^ 52 < m
+    → Nearest (m * 2 ^ 52) high
 nearest low high m b d e f =
     let x : low * low + low < m * 2 ^ 52 = div-lt-iff-lt-mul (pow-pos 52) .0 f in
     let one : low + 1 ≡ high = omega arith in

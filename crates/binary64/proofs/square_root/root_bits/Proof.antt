@@ -23,7 +23,8 @@ subnormal b k m p z e l =
     subst (λ (x : ℕ). HasValue (ofBits binary64 b) false x (2 ^ 1074)) small
     (rw (clear b (omega arith), z) (fields-low false (b % 2 ^ 52))) in
     root-value (ofBits binary64 b) b v p
-    ∙ ap rootUnits (ap (λ (x : ℕ). b * x) (ap (λ (x : ℕ). 2 ^ x) (sum k l) ∙ pow-add 2 k (1074 - k)) ∙ sym (mul-assoc b (2 ^ k) (2 ^ (1074 - k))) ∙ ap (λ (x : ℕ). x * 2 ^ (1074 - k)) (sym e))
+    ∙ ap rootUnits (ap (λ (x : ℕ). b * x) (ap (λ (x : ℕ). 2 ^ x) (sum k l) ∙ pow-add 2 k (1074 - k)) ∙ sym (mul-assoc b (2 ^ k) (2 ^ (1074 - k)))
+    ∙ ap (λ (x : ℕ). x * 2 ^ (1074 - k)) (sym e))
   where
     sum : (k : ℕ) → k ≤ 1074 → 1074 ≡ k + (1074 - k)
     sum k l = omega arith
@@ -51,7 +52,11 @@ root-of-requires : tie.Need-root-of-requires Inv-loop μ-loop
 root-of-requires c κs = omega (arith, mask-lt (c .before .args .bits) 52)
 
 returns : tie.Need-returns Inv-loop μ-loop
-returns c = let s = c .before .before in (c .root-of .ensures .0, c .root-of .ensures .1 ∙ sym (normal (s .args .bits) (c .before .if1 .taken) (s .pre .1)))
+returns c = let s = c .before .before in (
+  c .root-of .ensures .0,
+  c .root-of .ensures .1
+      ∙ sym (normal (s .args .bits) (c .before .if1 .taken) (s .pre .1)),
+)
 
 loop-holds : tie.Need-loop-holds Inv-loop μ-loop
 loop-holds c = (omega arith, omega arith, omega arith, sym (mul-one _))
@@ -84,8 +89,11 @@ returns-2 : tie.Need-returns-2 Inv-loop μ-loop
 returns-2 c =
     let l = c .before .before .loop in
     let at-start = c .before .before .before .before in
-    let z : at-start .args .bits / 2 ^ 52 ≡ 0 = omega arith in
-    (c .root-of2 .ensures .0, c .root-of2 .ensures .1 ∙ sym (subnormal (at-start .args .bits) (l .k) (l .m) (at-start .pre .0) z (l .inv .3) (omega arith)))
+    let z : at-start .args .bits / 2 ^ 52 ≡ 0 = omega arith in (
+      c .root-of2 .ensures .0,
+      c .root-of2 .ensures .1
+          ∙ sym (subnormal (at-start .args .bits) (l .k) (l .m) (at-start .pre .0) z (l .inv .3) (omega arith)),
+    )
 
 pub root-bits-spec : {M : Type 1} → statement M
 root-bits-spec =

@@ -1,4 +1,5 @@
--- `damped::Lm::step` meets its contract. Each call gives what the definition has in its place, and the test picks its case. The place is that of `tried`, or the state's. Assumes nothing.
+-- `damped::Lm::step` meets its contract. Each call gives what the definition has in its place, and the test picks its case. The place is that of
+-- `tried`, or the state's. Assumes nothing.
 use borrow.Author.Needs.{needs}
 use Rattle.damped.specs.Damped.{step}
 use Rattle.damped.proofs.Lm.step.Statement.{statement}
@@ -18,11 +19,23 @@ tried-requires c κs = search needs
 
 returns : tie.Need-returns
 unfolding step
-returns c = (rw (← c .before .before .before .before .before .before .damped .ensures, ← c .before .before .before .before .descent .ensures, c .before .before .before .if1 .taken, ← c .before .moved .ensures, c .tried .ensures .0), c .tried .ensures .1)
+returns c = (
+  rw (
+    ← c .before .before .before .before .before .before .damped .ensures,
+    ← c .before .before .before .before .descent .ensures,
+    c .before .before .before .if1 .taken,
+    ← c .before .moved .ensures,
+    c .tried .ensures .0,
+  ),
+  c .tried .ensures .1,
+)
 
 returns-2 : tie.Need-returns-2
 unfolding step
-returns-2 c = (rw (← c .before .before .before .damped .ensures, ← c .before .descent .ensures, c .if1 .left), c .before .before .before .before .before .before .before .pre .1)
+returns-2 c = (
+  rw (← c .before .before .before .damped .ensures, ← c .before .descent .ensures, c .if1 .left),
+  c .before .before .before .before .before .before .before .pre .1,
+)
 
 pub step-spec : {M : Type 1} → statement M
 step-spec =

@@ -19,7 +19,8 @@ placed-requires : tie.Need-placed-requires
 placed-requires c κs = c .before .run .ensures .1
 
 returns : tie.Need-returns
-returns c = c .placed .ensures ∙ ap placed (c .before .before .run .ensures .0 ∙ begun _ _ _ (c .before .before .before .before .before .evaluated .ensures))
+returns c = c .placed .ensures ∙ ap placed (c .before .before .run .ensures .0
+    ∙ begun _ _ _ (c .before .before .before .before .before .evaluated .ensures))
 
 pub levenberg-marquardt-spec : {M : Type 1} → statement M
 levenberg-marquardt-spec =

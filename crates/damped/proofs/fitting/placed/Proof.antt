@@ -1,4 +1,5 @@
--- `damped::fitting::placed` meets its contract. By the kinds of altitude: the last step's place is the fit's where there is one, and `from_ecef` gives it where not. Assumes nothing.
+-- `damped::fitting::placed` meets its contract. By the kinds of altitude: the last step's place is the fit's where there is one, and `from_ecef`
+-- gives it where not. Assumes nothing.
 use borrow.Author.Needs.{needs}
 use Rattle.damped.proofs.Carried.{found-at, none-at, barometric-at, gnss-at}
 use Rattle.damped.proofs.fitting.placed.Statement.{statement}
@@ -26,13 +27,17 @@ enum-known-altitude : tie.Need-enum-known-altitude
 enum-known-altitude c = search needs
 
 returns-2 : tie.Need-returns-2
-returns-2 c = let s = c .before .before .before .before .before in barometric-at (s .args .fit) (s .args .place) (s .args .altitude) _ (c .before .before .before .before .if1 .taken) (s .pre) (c .before .altitude .given .1)
+returns-2 c = let s = c .before .before .before .before .before in
+    barometric-at (s .args .fit) (s .args .place) (s .args .altitude) _ (c .before .before .before .before .if1 .taken) (s .pre)
+    (c .before .altitude .given .1)
 
 enum-known-altitude-2 : tie.Need-enum-known-altitude-2
 enum-known-altitude-2 c = search needs
 
 returns-3 : tie.Need-returns-3
-returns-3 c = let s = c .before .before .before .before .before in gnss-at (s .args .fit) (s .args .place) (s .args .altitude) _ (c .before .before .before .before .if1 .taken) (s .pre) (c .before .altitude2 .given .1)
+returns-3 c = let s = c .before .before .before .before .before in
+    gnss-at (s .args .fit) (s .args .place) (s .args .altitude) _ (c .before .before .before .before .if1 .taken) (s .pre)
+    (c .before .altitude2 .given .1)
 
 nowhere-requires : tie.Need-nowhere-requires
 nowhere-requires c κs = search needs

@@ -1,4 +1,5 @@
--- `damped::fitting::run` meets its contract. The invariant: what is left of the run from this state gives what the whole run gives, and the place is the state's. Each turn and each end is one of the run (`turn`, `ended`). Assumes nothing.
+-- `damped::fitting::run` meets its contract. The invariant: what is left of the run from this state gives what the whole run gives, and the place is
+-- the state's. Each turn and each end is one of the run (`turn`, `ended`). Assumes nothing.
 use borrow.Author.Needs.{needs}
 use mathlib.Core.Path.{_≡_, refl, _∙_}
 use mathlib.Core.Logic.{⊎-elim}
@@ -13,7 +14,8 @@ use Rattle.damped.proofs.fitting.run.Statement.{statement}
 use Rattle.damped.proofs.fitting.run.Tie as tie
 
 abbrev Inv-loop : tie.InvT-loop
-Inv-loop sites z k l altitude state₀ place₀ n₀ state place n = let P = chosen k sites z l altitude in (n ≤ 50) × (run P (50 - n) state ≡ run P 50 state₀) × (place ≡ placeOf altitude (state .params))
+Inv-loop sites z k l altitude state₀ place₀ n₀ state place n = let P = chosen k sites z l altitude in
+    (n ≤ 50) × (run P (50 - n) state ≡ run P 50 state₀) × (place ≡ placeOf altitude (state .params))
 
 abbrev μ-loop : tie.MeasureT-loop
 μ-loop sites z k l altitude state₀ place₀ n₀ state place n = 50 - n
@@ -38,7 +40,8 @@ returns c =
     let s = c .before .before .before .before .before .before .before .before .before in
     let step = c .before .before .before .before .before .before .step in
     let loop = c .before .before .before .before .before .before .before .before .loop in (
-      c .fitted .ensures ∙ turn _ (loop .n) _ _ _ Converged (c .before .before .before .before .before .before .before .loop-test .taken) (loop .inv .1) (step .ensures .0) (c .before .enum-told2 .given .1),
+      c .fitted .ensures ∙ turn _ (loop .n) _ _ _ Converged (c .before .before .before .before .before .before .before .loop-test .taken)
+          (loop .inv .1) (step .ensures .0) (c .before .enum-told2 .given .1),
       fitted-at (s .args .altitude) _ _ (step .result .stepped .state) (step .ensures .1) (c .fitted .ensures),
     )
 
@@ -56,7 +59,8 @@ returns-2 c =
     let s = c .before .before .before .before .before .before .before .before .before in
     let step = c .before .before .before .before .before .before .step in
     let loop = c .before .before .before .before .before .before .before .before .loop in (
-      c .plain .ensures ∙ turn _ (loop .n) _ _ _ Stopped (c .before .before .before .before .before .before .before .loop-test .taken) (loop .inv .1) (step .ensures .0) (c .before .enum-told4 .given .1),
+      c .plain .ensures ∙ turn _ (loop .n) _ _ _ Stopped (c .before .before .before .before .before .before .before .loop-test .taken) (loop .inv .1)
+          (step .ensures .0) (c .before .enum-told4 .given .1),
       plain-at (s .args .altitude) _ _ _ (step .ensures .1) (c .plain .ensures),
     )
 
@@ -71,7 +75,8 @@ returns-3 c =
     let s = c .before .before .before .before .before .before .before .before .before in
     let step = c .before .before .before .before .before .before .step in
     let loop = c .before .before .before .before .before .before .before .before .loop in (
-      c .unfitted .ensures ∙ turn _ (loop .n) _ _ _ Failed (c .before .before .before .before .before .before .before .loop-test .taken) (loop .inv .1) (step .ensures .0) (c .before .enum-told5 .given .1),
+      c .unfitted .ensures ∙ turn _ (loop .n) _ _ _ Failed (c .before .before .before .before .before .before .before .loop-test .taken)
+          (loop .inv .1) (step .ensures .0) (c .before .enum-told5 .given .1),
       unfitted-at (s .args .altitude) _ _ (c .unfitted .ensures),
     )
 

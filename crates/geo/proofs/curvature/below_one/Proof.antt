@@ -1,4 +1,5 @@
--- `geo::curvature::below_one` meets its contract: x is what its bits stand for (`back`), and the two tests leave the bits from 1/2 up to 1. Assumes nothing.
+-- `geo::curvature::below_one` meets its contract: x is what its bits stand for (`back`), and the two tests leave the bits from 1/2 up to 1. Assumes
+-- nothing.
 use mathlib.Core.Path.{_≡_, sym, ap, _∙_}
 use Prim.Native.Nat.{ℕ, _+_, _-_, _*_, _^_, _≤_, _<_}
 use native.Mathlib.Omega.{arith}

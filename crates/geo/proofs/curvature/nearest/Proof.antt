@@ -1,4 +1,5 @@
--- `geo::curvature::nearest` meets its contract: the two comparisons are those of `Nearest`, on numbers that two words hold (`square-fits`, `room`). Assumes nothing.
+-- `geo::curvature::nearest` meets its contract: the two comparisons are those of `Nearest`, on numbers that two words hold (`square-fits`, `room`).
+-- Assumes nothing.
 use mathlib.Core.Bool.{false≢true}
 use native.Mathlib.Omega.{arith}
 use borrow.Author.Needs.{needs}
@@ -20,7 +21,8 @@ le-requires : tie.Need-le-requires
 le-requires c κs = search needs
 
 add-requires-2 : tie.Need-add-requires-2
-add-requires-2 c κs = let start = c .before .before .before .before .before in room _ (c .before .before .before .mul2 .ensures) (omega arith) (start .pre .1)
+add-requires-2 c κs = let start = c .before .before .before .before .before in
+    room _ (c .before .before .before .mul2 .ensures) (omega arith) (start .pre .1)
 
 le-requires-2 : tie.Need-le-requires-2
 le-requires-2 c κs = search needs
@@ -29,7 +31,8 @@ returns : tie.Need-returns
 returns c = λ t.
     let at-if1 = c .before .before in
     let at-mul2 = at-if1 .before .before .before in
-    between _ _ (at-mul2 .before .mul .ensures) (at-mul2 .mul2 .ensures) (at-if1 .before .before .add .ensures) (at-if1 .before .le .ensures) (at-if1 .if1 .taken) (c .before .add2 .ensures) (c .le2 .ensures) (not-true _ t)
+    between _ _ (at-mul2 .before .mul .ensures) (at-mul2 .mul2 .ensures) (at-if1 .before .before .add .ensures) (at-if1 .before .le .ensures)
+    (at-if1 .if1 .taken) (c .before .add2 .ensures) (c .le2 .ensures) (not-true _ t)
 
 returns-2 : tie.Need-returns-2
 returns-2 c = λ t. absurd (false≢true t)

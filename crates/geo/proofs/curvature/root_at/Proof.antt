@@ -1,4 +1,5 @@
--- `geo::curvature::root_at` meets its contract: where s passes the check it is the root (`root-below-one`), and elsewhere `binary64::sqrt` gives it. Assumes nothing.
+-- `geo::curvature::root_at` meets its contract: where s passes the check it is the root (`root-below-one`), and elsewhere `binary64::sqrt` gives it.
+-- Assumes nothing.
 use borrow.Author.Needs.{needs}
 use Rattle.geo.proofs.NearOne.{root-below-one}
 use Rattle.geo.proofs.curvature.root_at.Statement.{statement}
@@ -11,13 +12,17 @@ below-one-requires-2 : tie.Need-below-one-requires-2
 below-one-requires-2 c κs = search needs
 
 nearest-requires : tie.Need-nearest-requires
-nearest-requires c κs = (c .before .before .before .below-one .ensures (c .before .if1 .taken) .1, c .before .before .below-one2 .ensures (c .if2 .taken) .1)
+nearest-requires c κs = (
+  c .before .before .before .below-one .ensures (c .before .if1 .taken) .1,
+  c .before .before .below-one2 .ensures (c .if2 .taken) .1,
+)
 
 returns : tie.Need-returns
 returns c =
     let at-if2 = c .before .before in
     let at-two = at-if2 .before .before in
-    root-below-one _ _ _ _ (at-two .before .below-one .ensures (at-if2 .before .if1 .taken)) (at-two .below-one2 .ensures (at-if2 .if2 .taken)) (c .before .nearest .ensures (c .if3 .taken))
+    root-below-one _ _ _ _ (at-two .before .below-one .ensures (at-if2 .before .if1 .taken)) (at-two .below-one2 .ensures (at-if2 .if2 .taken))
+    (c .before .nearest .ensures (c .if3 .taken))
 
 sqrt-requires : tie.Need-sqrt-requires
 sqrt-requires c κs = search needs

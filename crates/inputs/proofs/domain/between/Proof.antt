@@ -9,7 +9,11 @@ both-requires : tie.Need-both-requires
 both-requires c κs = search needs
 
 returns : tie.Need-returns
-returns c = rw (toZ-ofZ w64 (c .before .args .x) (c .before .fits .x), toZ-ofZ w64 (c .before .args .low) (c .before .fits .low), toZ-ofZ w64 (c .before .args .high) (c .before .fits .high)) at (c .both .ensures)
+returns c = rw (
+  toZ-ofZ w64 (c .before .args .x) (c .before .fits .x),
+  toZ-ofZ w64 (c .before .args .low) (c .before .fits .low),
+  toZ-ofZ w64 (c .before .args .high) (c .before .fits .high),
+) at (c .both .ensures)
 
 pub between-spec : {M : Type 1} → statement M
 between-spec =

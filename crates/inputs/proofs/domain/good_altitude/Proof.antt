@@ -1,4 +1,5 @@
--- `inputs::domain::good_altitude` meets its contract: each return is one side of the definition's test on the kind (`barometric`, `gnss`). Assumes nothing.
+-- `inputs::domain::good_altitude` meets its contract: each return is one side of the definition's test on the kind (`barometric`, `gnss`). Assumes
+-- nothing.
 use borrow.Author.Needs.{needs}
 use mathlib.Core.Path.{_≡_, refl, _∙_}
 use mathlib.Core.Bool.{Bool, true, false, _&&_, _||_}
@@ -21,12 +22,14 @@ or-not : (a : Bool) → a || false ≡ a
 or-not true = refl
 or-not false = refl
 
-module _ (kind : ℕ) (correction : ℤ) (metres : Float) {good r : Bool} (tested : good ≡ within (neg (# 0x40F86A0000000000)) (# 0x40F86A0000000000) metres) where
+module _ (kind : ℕ) (correction : ℤ) (metres : Float) {good r : Bool}
+    (tested : good ≡ within (neg (# 0x40F86A0000000000)) (# 0x40F86A0000000000) metres) where
   barometric : {fine : Bool} → kind ≡ 1 → fine ≡ goodCorrection correction → r ≡ fine && good → r ≡ goodAltitude kind correction metres
   unfolding goodAltitude goodMetres
   barometric one f e = e ∙ rw (f, tested, one, or-not (goodCorrection correction), high)
 
-  gnss : {zero both : Bool} → (kind ≡ 1 → ⊥) → zero ≡ isZero correction → both ≡ eqb kind 2 && zero → r ≡ both && good → r ≡ goodAltitude kind correction metres
+  gnss : {zero both : Bool} → (kind ≡ 1 → ⊥) → zero ≡ isZero correction → both ≡ eqb kind 2 && zero → r ≡ both && good → r
+      ≡ goodAltitude kind correction metres
   unfolding goodAltitude goodMetres
   gnss other z b e = e ∙ rw (b, z, tested, ne-eqb kind 1 other, high)
 

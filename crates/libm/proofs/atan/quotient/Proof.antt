@@ -1,5 +1,5 @@
--- `libm::atan::quotient` meets its contract: each return is one case of the definition. A high word is below 2^31, so the sums fit, and either half of the second
--- test may fail. Assumes nothing.
+-- `libm::atan::quotient` meets its contract: each return is one case of the definition. A high word is below 2^31, so the sums fit, and either half
+-- of the second test may fail. Assumes nothing.
 use borrow.Author.Needs.{needs}
 use mathlib.Core.Path.{_≡_}
 use mathlib.Core.Logic.{⊎-elim}
@@ -54,7 +54,12 @@ returns-3 c =
     let at-if1 = at-negative .before in
     let off : (at-negative .negative .result && ltb (at-if1 .before .before .high .result + 60 * 2 ^ 20) (at-if1 .before .high2 .result)) ≡ false =
     ⊎-elim (λ w. rw (w .0 .taken, w .1 .left)) (λ w. rw (w .left)) (c .before .before .if2 .came) in
-    rw (← at-if1 .before .before .high .ensures, ← at-if1 .before .high2 .ensures, lt-leb (_ + 61 * 2 ^ 20) _ (at-if1 .if1 .left), ← at-negative .negative .ensures)
+    rw (
+      ← at-if1 .before .before .high .ensures,
+      ← at-if1 .before .high2 .ensures,
+      lt-leb (_ + 61 * 2 ^ 20) _ (at-if1 .if1 .left),
+      ← at-negative .negative .ensures,
+    )
     (rw (off, ← c .before .abs .ensures, ← c .atan .ensures))
 
 pub quotient-spec : {M : Type 1} → statement M

@@ -1,4 +1,5 @@
--- `libm::both::sincos` meets its contract: each return is one case of `sin` beside the same case of `cos`, and 0 / 0 is not-a-number (`zero-by-zero`). Assumes nothing.
+-- `libm::both::sincos` meets its contract: each return is one case of `sin` beside the same case of `cos`, and 0 / 0 is not-a-number
+-- (`zero-by-zero`). Assumes nothing.
 use borrow.Author.Needs.{needs}
 use borrow.Author.Tests.{le-leb, lt-leb}
 use Rattle.libm.specs.Trig.{sin, cos, quadrant, sincos}
@@ -18,7 +19,12 @@ k-cos-requires c κs = search needs
 
 returns : tie.Need-returns
 unfolding sincos sin cos
-returns c = rw (← c .before .before .before .high .ensures, le-leb _ _ (c .before .before .if1 .taken), ← c .before .k-sin .ensures, ← c .k-cos .ensures)
+returns c = rw (
+  ← c .before .before .before .high .ensures,
+  le-leb _ _ (c .before .before .if1 .taken),
+  ← c .before .k-sin .ensures,
+  ← c .k-cos .ensures,
+)
 
 abs-requires : tie.Need-abs-requires
 abs-requires c κs = search needs
@@ -48,12 +54,23 @@ returns-2 c =
     let at-rem-pio2 = at-k-cos2 .before .before .before in
     let at-if1 = at-rem-pio2 .before .before .before in
     rw (← at-if1 .before .high .ensures, lt-leb _ _ (at-if1 .if1 .left), ← at-rem-pio2 .before .before .abs .ensures)
-    (rw (by-limit _ _ (at-rem-pio2 .before .if2 .taken), ← at-rem-pio2 .rem-pio2 .ensures, ← at-k-cos2 .before .k-sin2 .ensures, ← at-k-cos2 .k-cos2 .ensures)
+    (rw (
+      by-limit _ _ (at-rem-pio2 .before .if2 .taken),
+      ← at-rem-pio2 .rem-pio2 .ensures,
+      ← at-k-cos2 .before .k-sin2 .ensures,
+      ← at-k-cos2 .k-cos2 .ensures,
+    )
     (rw (← c .before .before .switch .ensures, ← c .before .signed .ensures, c .switch2 .ensures)))
 
 returns-3 : tie.Need-returns-3
 unfolding sincos sin cos
-returns-3 c = rw (← c .before .before .before .high .ensures, lt-leb _ _ (c .before .before .if1 .left), ← c .before .abs .ensures, by-limit _ _ (c .if2 .left), zero-by-zero)
+returns-3 c = rw (
+  ← c .before .before .before .high .ensures,
+  lt-leb _ _ (c .before .before .if1 .left),
+  ← c .before .abs .ensures,
+  by-limit _ _ (c .if2 .left),
+  zero-by-zero,
+)
 
 pub sincos-spec : {M : Type 1} → statement M
 sincos-spec =

@@ -1,4 +1,5 @@
--- `libm::hypotenuse::inf_or_nan` meets its contract: each return is one case of the definition, and 1 / 0 is the infinity (`one-by-nought`). Assumes nothing.
+-- `libm::hypotenuse::inf_or_nan` meets its contract: each return is one case of the definition, and 1 / 0 is the infinity (`one-by-nought`). Assumes
+-- nothing.
 use Rattle.libm.specs.Hypotenuse.{infOrNan}
 use Rattle.libm.proofs.Infinity.{one-by-nought}
 use Rattle.libm.proofs.hypotenuse.inf_or_nan.Statement.{statement}

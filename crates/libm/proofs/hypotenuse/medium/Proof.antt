@@ -1,4 +1,5 @@
--- `libm::hypotenuse::medium` meets its contract: the returns are the two cases of the definition, and the words stay up to an infinity's. Assumes nothing.
+-- `libm::hypotenuse::medium` meets its contract: the returns are the two cases of the definition, and the words stay up to an infinity's. Assumes
+-- nothing.
 use borrow.Author.Needs.{needs}
 use native.Mathlib.Omega.{arith}
 use Rattle.libm.specs.Hypotenuse.{medium}

@@ -1,5 +1,5 @@
--- `libm::hypotenuse::scaled` meets its contract: each return is one case of the definition. The gap is at most 60, so both words are past 0x25800000 where a's is
--- past 0x5F300000, and stay far below an infinity's where b's is below 0x20B00000. Assumes nothing.
+-- `libm::hypotenuse::scaled` meets its contract: each return is one case of the definition. The gap is at most 60, so both words are past 0x25800000
+-- where a's is past 0x5F300000, and stay far below an infinity's where b's is below 0x20B00000. Assumes nothing.
 use borrow.Author.Tests.{lt-ltb, le-ltb, le-leb, lt-leb}
 use native.Mathlib.Omega.{arith}
 use Rattle.libm.specs.Hypotenuse.{scaled}

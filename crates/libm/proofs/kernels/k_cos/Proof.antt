@@ -1,5 +1,5 @@
--- `libm::kernels::k_cos` meets its contract: each return is one case of the definition, step by step. `qx` asks for a high word from 0x3FD33333 on, which the second
--- test shows. Assumes nothing.
+-- `libm::kernels::k_cos` meets its contract: each return is one case of the definition, step by step. `qx` asks for a high word from 0x3FD33333 on,
+-- which the second test shows. Assumes nothing.
 use borrow.Author.Needs.{needs}
 use borrow.Author.Tests.{lt-ltb, le-ltb}
 use Rattle.libm.specs.Kernels.{kCos}
@@ -22,7 +22,12 @@ qx-requires c κs = search needs
 
 returns-3 : tie.Need-returns-3
 unfolding kCos
-returns-3 c = rw (← c .before .before .before .high .ensures, le-ltb _ _ (c .before .before .if1 .left), le-ltb _ _ (c .before .if2 .left), ← c .qx .ensures)
+returns-3 c = rw (
+  ← c .before .before .before .high .ensures,
+  le-ltb _ _ (c .before .before .if1 .left),
+  le-ltb _ _ (c .before .if2 .left),
+  ← c .qx .ensures,
+)
 
 pub k-cos-spec : {M : Type 1} → statement M
 k-cos-spec =

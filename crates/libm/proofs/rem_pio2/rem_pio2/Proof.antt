@@ -13,14 +13,24 @@ split-requires c κs = search needs
 
 returns : tie.Need-returns
 unfolding remPio2
-returns c = rw (← c .before .before .before .high .ensures, lt-ltb _ _ (c .before .before .if1 .taken), ne-eqb _ _ (c .before .if2 .taken), ← c .split .ensures)
+returns c = rw (
+  ← c .before .before .before .high .ensures,
+  lt-ltb _ _ (c .before .before .if1 .taken),
+  ne-eqb _ _ (c .before .if2 .taken),
+  ← c .split .ensures,
+)
 
 split-requires-2 : tie.Need-split-requires-2
 split-requires-2 c κs = search needs
 
 returns-2 : tie.Need-returns-2
 unfolding remPio2
-returns-2 c = rw (← c .before .before .before .high .ensures, lt-ltb _ _ (c .before .before .if1 .taken), eq-eqb _ _ (c .before .if2 .left), c .split2 .ensures)
+returns-2 c = rw (
+  ← c .before .before .before .high .ensures,
+  lt-ltb _ _ (c .before .before .if1 .taken),
+  eq-eqb _ _ (c .before .if2 .left),
+  c .split2 .ensures,
+)
 
 medium-requires : tie.Need-medium-requires
 medium-requires c κs = search needs

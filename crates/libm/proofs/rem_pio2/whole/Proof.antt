@@ -1,5 +1,5 @@
--- `libm::rem_pio2::whole` meets its contract: the two tests are what the truncation asks for, and beyond them the cast stops at the ends of its range (`cast-most`,
--- `cast-least`). Assumes nothing.
+-- `libm::rem_pio2::whole` meets its contract: the two tests are what the truncation asks for, and beyond them the cast stops at the ends of its range
+-- (`cast-most`, `cast-least`). Assumes nothing.
 use mathlib.Core.Path.{sym, subst}
 use lib.Dec.{T}
 use lib.Ieee.{neg, ofBits}

@@ -30,12 +30,22 @@ returns-2 : tie.Need-returns-2
 unfolding cos
 returns-2 c =
     let at-abs = c .before .before .before in
-    rw (← at-abs .before .before .high .ensures, lt-leb _ _ (at-abs .before .if1 .left), ← at-abs .abs .ensures, by-limit _ _ (c .before .before .if2 .taken))
+    rw (
+      ← at-abs .before .before .high .ensures,
+      lt-leb _ _ (at-abs .before .if1 .left),
+      ← at-abs .abs .ensures,
+      by-limit _ _ (c .before .before .if2 .taken),
+    )
     (rw (← c .before .rem-pio2 .ensures, ← c .cos-of .ensures))
 
 returns-3 : tie.Need-returns-3
 unfolding cos
-returns-3 c = rw (← c .before .before .before .high .ensures, lt-leb _ _ (c .before .before .if1 .left), ← c .before .abs .ensures, by-limit _ _ (c .if2 .left)) zero-by-zero
+returns-3 c = rw (
+  ← c .before .before .before .high .ensures,
+  lt-leb _ _ (c .before .before .if1 .left),
+  ← c .before .abs .ensures,
+  by-limit _ _ (c .if2 .left),
+) zero-by-zero
 
 pub cos-spec : {M : Type 1} → statement M
 cos-spec =

@@ -39,7 +39,12 @@ returns-2 c =
 
 returns-3 : tie.Need-returns-3
 unfolding sin
-returns-3 c = rw (← c .before .before .before .high .ensures, lt-leb _ _ (c .before .before .if1 .left), ← c .before .abs .ensures, by-limit _ _ (c .if2 .left)) zero-by-zero
+returns-3 c = rw (
+  ← c .before .before .before .high .ensures,
+  lt-leb _ _ (c .before .before .if1 .left),
+  ← c .before .abs .ensures,
+  by-limit _ _ (c .if2 .left),
+) zero-by-zero
 
 pub sin-spec : {M : Type 1} → statement M
 sin-spec =

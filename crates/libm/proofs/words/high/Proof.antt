@@ -1,5 +1,5 @@
--- `libm::words::high` meets its contract: what equals itself is a number, so its bits are defined, and the one not-a-number has the high word that is returned for it.
--- Assumes nothing.
+-- `libm::words::high` meets its contract: what equals itself is a number, so its bits are defined, and the one not-a-number has the high word that is
+-- returned for it. Assumes nothing.
 use mathlib.Core.Path.{refl}
 use lib.Ieee.{toBits}
 use Rattle.binary64.proofs.Patterns.{number, is-nan}

@@ -1,4 +1,5 @@
--- `libm::words::negative` meets its contract: what equals itself is a number, so its bits are defined, and the one not-a-number has the sign clear. Assumes nothing.
+-- `libm::words::negative` meets its contract: what equals itself is a number, so its bits are defined, and the one not-a-number has the sign clear.
+-- Assumes nothing.
 use mathlib.Core.Path.{refl}
 use lib.Ieee.{toBits}
 use Rattle.binary64.proofs.Patterns.{number, is-nan}

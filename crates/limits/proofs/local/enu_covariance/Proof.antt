@@ -27,7 +27,12 @@ local-row-requires-3 c κs = search needs
 
 returns : tie.Need-returns
 unfolding enuCovariance
-returns c = rw (c .local-row3 .ensures, c .before .before .local-row2 .ensures, c .before .before .before .before .local-row .ensures, c .before .before .before .before .before .before .enu-basis .ensures)
+returns c = rw (
+  c .local-row3 .ensures,
+  c .before .before .local-row2 .ensures,
+  c .before .before .before .before .local-row .ensures,
+  c .before .before .before .before .before .before .enu-basis .ensures,
+)
 
 pub enu-covariance-spec : {M : Type 1} → statement M
 enu-covariance-spec =

@@ -30,4 +30,5 @@ unfolding horizontalSigmaM
 returns c = rw (c .sqrt .ensures, c .before .max .ensures, c .before .before .before .before .enu-covariance .ensures)
 
 pub horizontal-sigma-m-spec : {M : Type 1} → statement M
-horizontal-sigma-m-spec = tie.close (tie.spec enu-covariance-requires index-1-max index-2-max index-1-max-2 index-2-max-2 max-requires sqrt-requires returns)
+horizontal-sigma-m-spec = tie.close (tie.spec enu-covariance-requires index-1-max index-2-max index-1-max-2 index-2-max-2 max-requires
+    sqrt-requires returns)

@@ -1,4 +1,5 @@
--- `mlat_solver::claims::mlat_enu_covariance` meets its contract: the array has the nine entries of what `limits::enu_covariance` gives. Assumes nothing.
+-- `mlat_solver::claims::mlat_enu_covariance` meets its contract: the array has the nine entries of what `limits::enu_covariance` gives. Assumes
+-- nothing.
 use borrow.Author.Needs.{needs}
 use mathlib.Core.Path.{ap, ap₂, _∙_}
 use Rattle.limits.specs.Local.{enuCovariance}
@@ -19,7 +20,8 @@ nine-requires : tie.Need-nine-requires
 nine-requires c κs = search needs
 
 returns : tie.Need-returns
-returns c = c .nine .ensures ∙ ap nineOf (c .before .enu-covariance .ensures ∙ ap₂ enuCovariance (c .before .before .before .geodetic .ensures) (c .before .before .rows .ensures))
+returns c = c .nine .ensures ∙ ap nineOf (c .before .enu-covariance .ensures
+    ∙ ap₂ enuCovariance (c .before .before .before .geodetic .ensures) (c .before .before .rows .ensures))
 
 pub mlat-enu-covariance-spec : {M : Type 1} → statement M
 mlat-enu-covariance-spec = tie.close (tie.spec geodetic-requires rows-requires enu-covariance-requires nine-requires returns)

@@ -27,7 +27,8 @@ refused-requires : tie.Need-refused-requires
 refused-requires c κs = search needs
 
 returns-2 : tie.Need-returns-2
-returns-2 c = λ o e. c .refused .ensures ∙ ap (λ (why : Refusal). asAnswer (refused why)) (c .before .of-unpublished .ensures) ∙ ap answered (read-back (c .before .before .before .args .f) o false e (c .before .before .if1 .left))
+returns-2 c = λ o e. c .refused .ensures ∙ ap (λ (why : Refusal). asAnswer (refused why)) (c .before .of-unpublished .ensures)
+    ∙ ap answered (read-back (c .before .before .before .args .f) o false e (c .before .before .if1 .left))
 
 pub of-finished-spec : {M : Type 1} → statement M
 of-finished-spec =

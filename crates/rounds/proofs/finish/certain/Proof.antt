@@ -77,7 +77,12 @@ cholesky-requires c κs = search needs
 
 returns-2 : tie.Need-returns-2
 unfolding certain
-returns-2 c = rw (← c .before .before .before .before .before .before .before .before .before .before .before .before .before .before .wide .ensures, c .before .before .before .before .before .before .before .before .before .before .before .before .before .if1 .left, ← c .before .cholesky .ensures, definite-verdict)
+returns-2 c = rw (
+  ← c .before .before .before .before .before .before .before .before .before .before .before .before .before .before .wide .ensures,
+  c .before .before .before .before .before .before .before .before .before .before .before .before .before .if1 .left,
+  ← c .before .cholesky .ensures,
+  definite-verdict,
+)
 
 pub certain-spec : {M : Type 1} → statement M
 certain-spec =

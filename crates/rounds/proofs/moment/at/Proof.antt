@@ -1,4 +1,5 @@
--- `rounds::moment::at` meets its contract: below the half the number is -1 less the places up to it, and from there on the places past it. Assumes nothing.
+-- `rounds::moment::at` meets its contract: below the half the number is -1 less the places up to it, and from there on the places past it. Assumes
+-- nothing.
 use borrow.Author.Needs.{needs}
 use native.Mathlib.Omega.{arith}
 use Rattle.rounds.proofs.Moments.{lower-fits, lower-half, upper-half}

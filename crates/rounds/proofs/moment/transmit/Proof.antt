@@ -1,4 +1,5 @@
--- `rounds::moment::transmit` meets its contract. A whole number of binary64 within the tests is cast exactly; past them, as for an infinity, the sum leaves i64 whatever the reference. Assumes nothing.
+-- `rounds::moment::transmit` meets its contract. A whole number of binary64 within the tests is cast exactly; past them, as for an infinity, the sum
+-- leaves i64 whatever the reference. Assumes nothing.
 use borrow.Author.Needs.{needs}
 use mathlib.Core.Path.{_≡_, sym, subst, _∙_}
 use lib.Dec.{T}
@@ -22,7 +23,9 @@ later-requires : tie.Need-later-requires
 later-requires c κs = search needs
 
 returns : tie.Need-returns
-returns c = by-cast (c .before .before .before .args .reference) (pos 0) (c .before .before .before .args .t) (c .before .before .round .result) (c .later .result) (c .before .before .round .ensures) (cast-nan (c .before .before .round .result) (c .before .if1 .taken)) (rw (same (c .before .before .before)) at (c .later .ensures))
+returns c = by-cast (c .before .before .before .args .reference) (pos 0) (c .before .before .before .args .t) (c .before .before .round .result)
+    (c .later .result) (c .before .before .round .ensures) (cast-nan (c .before .before .round .result) (c .before .if1 .taken))
+    (rw (same (c .before .before .before)) at (c .later .ensures))
 
 truncating-f64-to-u64-requires : tie.Need-truncating-f64-to-u64-requires
 unfolding ofBits neg
@@ -36,7 +39,10 @@ unfolding ofBits neg
 returns-2 c =
     let s = c .before .before .before .before .before .before in
     let r = c .before .before .before .before .before .round .result in
-    by-cast (s .args .reference) (pos (toUnsigned 64 r)) (s .args .t) r (c .later2 .result) (c .before .before .before .before .before .round .ensures) (cast-up r (c .before .before .before .if2 .taken) (c .before .before .if3 .taken)) (rw (same s, c .before .truncating-f64-to-u64 .ensures) at (c .later2 .ensures))
+    by-cast (s .args .reference) (pos (toUnsigned 64 r)) (s .args .t) r (c .later2 .result)
+    (c .before .before .before .before .before .round .ensures)
+    (cast-up r (c .before .before .before .if2 .taken) (c .before .before .if3 .taken))
+    (rw (same s, c .before .truncating-f64-to-u64 .ensures) at (c .later2 .ensures))
 
 beyond-requires : tie.Need-beyond-requires
 beyond-requires c κs = search needs
@@ -47,7 +53,8 @@ returns-3 c =
     let s = c .before .before .before .before .before in
     let r = c .before .before .before .before .round .result in
     let far = cast-high r (c .before .before .if2 .taken) (c .before .if3 .left) in
-    c .beyond .ensures ∙ by-cast (s .args .reference) (pos (far .0)) (s .args .t) r beyond (c .before .before .before .before .round .ensures) (far .1) (far-later (s .args .reference) (far .0) (s .fits .reference .sfits) (far .2))
+    c .beyond .ensures ∙ by-cast (s .args .reference) (pos (far .0)) (s .args .t) r beyond (c .before .before .before .before .round .ensures)
+    (far .1) (far-later (s .args .reference) (far .0) (s .fits .reference .sfits) (far .2))
 
 truncating-f64-to-u64-requires-2 : tie.Need-truncating-f64-to-u64-requires-2
 unfolding ofBits neg
@@ -61,7 +68,10 @@ unfolding ofBits neg
 returns-4 c =
     let s = c .before .before .before .before .before .before in
     let r = c .before .before .before .before .before .round .result in
-    by-cast (s .args .reference) (negℤ (pos (toUnsigned 64 (neg r)))) (s .args .t) r (c .earlier .result) (c .before .before .before .before .before .round .ensures) (cast-down r (c .before .before .before .before .if1 .left) (c .before .before .before .if2 .left) (c .before .before .if4 .taken)) (rw (same s, c .before .truncating-f64-to-u642 .ensures) at (c .earlier .ensures))
+    by-cast (s .args .reference) (negℤ (pos (toUnsigned 64 (neg r)))) (s .args .t) r (c .earlier .result)
+    (c .before .before .before .before .before .round .ensures)
+    (cast-down r (c .before .before .before .before .if1 .left) (c .before .before .before .if2 .left) (c .before .before .if4 .taken))
+    (rw (same s, c .before .truncating-f64-to-u642 .ensures) at (c .earlier .ensures))
 
 beyond-requires-2 : tie.Need-beyond-requires-2
 beyond-requires-2 c κs = search needs
@@ -72,7 +82,8 @@ returns-5 c =
     let s = c .before .before .before .before .before in
     let r = c .before .before .before .before .round .result in
     let far = cast-low r (c .before .before .before .if1 .left) (c .before .before .if2 .left) (c .before .if4 .left) in
-    c .beyond2 .ensures ∙ by-cast (s .args .reference) (negℤ (pos (far .0))) (s .args .t) r beyond (c .before .before .before .before .round .ensures) (far .1) (far-earlier (s .args .reference) (far .0) (s .fits .reference .sfits) (far .2))
+    c .beyond2 .ensures ∙ by-cast (s .args .reference) (negℤ (pos (far .0))) (s .args .t) r beyond (c .before .before .before .before .round .ensures)
+    (far .1) (far-earlier (s .args .reference) (far .0) (s .fits .reference .sfits) (far .2))
 
 pub transmit-spec : {M : Type 1} → statement M
 transmit-spec =

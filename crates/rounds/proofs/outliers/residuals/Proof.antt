@@ -16,7 +16,8 @@ use Rattle.rounds.proofs.outliers.residuals.Statement.{statement}
 use Rattle.rounds.proofs.outliers.residuals.Tie as tie
 
 abbrev Inv-loop : tie.InvT-loop
-Inv-loop site z noise clock n params out₀ i₀ out i = (i ≤ n) × ((altitude : Altitude) → out ≡ fillTo (normalised (receptions site z noise clock n altitude) params) (replicate 32 nought) i)
+Inv-loop site z noise clock n params out₀ i₀ out i = (i ≤ n)
+    × ((altitude : Altitude) → out ≡ fillTo (normalised (receptions site z noise clock n altitude) params) (replicate 32 nought) i)
 
 abbrev μ-loop : tie.MeasureT-loop
 μ-loop site z noise clock n params out₀ i₀ out i = n - i
@@ -43,8 +44,11 @@ loop-less c = search needs
 loop-again : tie.Need-loop-again Inv-loop μ-loop
 unfolding fillTo
 loop-again c =
-    let at = c .before .before .loop in
-    (omega arith, λ altitude. rw add-one (ap₂ (λ (out : List Float) (x : Float). set out (at .i) x) (at .inv .1 altitude) (c .normalised .ensures altitude)))
+    let at = c .before .before .loop in (
+      omega arith,
+      λ altitude. rw add-one (ap₂ (λ (out : List Float) (x : Float). set out (at .i) x) (at .inv .1 altitude)
+          (c .normalised .ensures altitude)),
+    )
 
 returns : tie.Need-returns Inv-loop μ-loop
 returns c = λ altitude. let all : c .before .loop .i ≡ c .before .before .args .n = omega arith in rw all at (c .before .loop .inv .1 altitude)

@@ -25,7 +25,9 @@ no-number-requires : tie.Need-no-number-requires Inv-loop μ-loop
 no-number-requires c κs = search needs
 
 returns : tie.Need-returns Inv-loop μ-loop
-returns c = one-found (noNumber (has (c .before .before .before .before .args .kept)) (nth (c .before .before .before .before .args .z .now))) (c .before .before .before .loop .i) (c .before .before .before .before .args .n) (omega arith) (sym (c .before .no-number .ensures) ∙ c .if1 .taken)
+returns c = one-found (noNumber (has (c .before .before .before .before .args .kept)) (nth (c .before .before .before .before .args .z .now)))
+    (c .before .before .before .loop .i) (c .before .before .before .before .args .n) (omega arith)
+    (sym (c .before .no-number .ensures) ∙ c .if1 .taken)
 
 add-i : tie.Need-add-i Inv-loop μ-loop
 add-i c = search needs
@@ -34,7 +36,12 @@ loop-less : tie.Need-loop-less Inv-loop μ-loop
 loop-less c = search needs
 
 loop-again : tie.Need-loop-again Inv-loop μ-loop
-loop-again c = (omega arith, none-yet (noNumber (has (c .before .before .before .before .args .kept)) (nth (c .before .before .before .before .args .z .now))) (c .before .before .before .loop .i) (c .before .before .before .loop .inv .1) (sym (c .before .no-number .ensures) ∙ c .if1 .left))
+loop-again c = (
+  omega arith,
+  none-yet (noNumber (has (c .before .before .before .before .args .kept))
+      (nth (c .before .before .before .before .args .z .now))) (c .before .before .before .loop .i) (c .before .before .before .loop .inv .1)
+      (sym (c .before .no-number .ensures) ∙ c .if1 .left),
+)
 
 returns-2 : tie.Need-returns-2 Inv-loop μ-loop
 returns-2 c =

@@ -46,7 +46,9 @@ returns c =
     let s = c .before .before .before .before in
     let n = c .before .before .before .count in (
       (
-        λ reference. ap (λ (x : Step). stepOf (x .turn) (x .fit)) (c .ended .ensures) ∙ round-few (heard s) (s .args .kept) reference (s .pre .0) (s .args .state .included) (s .pre .1) (before (s .args .state)) (n .result) (n .ensures) (rw (c .before .before .minimum .ensures) at (c .before .if1 .taken)),
+        λ reference. ap (λ (x : Step). stepOf (x .turn) (x .fit)) (c .ended .ensures)
+            ∙ round-few (heard s) (s .args .kept) reference (s .pre .0) (s .args .state .included) (s .pre .1) (before (s .args .state)) (n .result)
+            (n .ensures) (rw (c .before .before .minimum .ensures) at (c .before .if1 .taken)),
         λ m q. absurd (no-change _ m (ap (λ (x : Step). x .turn) (sym (c .ended .ensures)) ∙ q)),
       ),
       λ q. absurd (no-settling _ (ap (λ (x : Step). x .turn) (sym (c .ended .ensures)) ∙ q)),
@@ -68,10 +70,17 @@ returns-2 c =
     let at = c .before .before .before .before .before .before .before .before .fit-included in
     let left = c .before .before .before .residuals in (
       (
-        λ reference. round-fitted (heard s) (s .args .kept) reference (s .pre .0) (s .args .state .included) (s .pre .1) (before (s .args .state)) (n .result) (n .ensures) (rw (c .before .before .before .before .before .before .before .before .before .before .minimum .ensures) at (c .before .before .before .before .before .before .before .before .before .if1 .left)) (at .result .best) (ap (λ (x : BestAt). x .best) (at .ensures)) (c .before .before .before .before .before .before .if2 .taken) (left .result) (λ j l. ap (λ (v : List Float). nth v j) (left .ensures (s .args .altitude)) ∙ fill-at _ (replicate 32 nought) (s .args .n) j (s .pre .0) l) (c .before .decided .result) (c .before .decided .ensures .0 (at .result .best .fit)),
+        λ reference. round-fitted (heard s) (s .args .kept) reference (s .pre .0) (s .args .state .included) (s .pre .1) (before (s .args .state))
+            (n .result) (n .ensures) (rw (c .before .before .before .before .before .before .before .before .before .before .minimum .ensures) at
+            (c .before .before .before .before .before .before .before .before .before .if1 .left)) (at .result .best)
+            (ap (λ (x : BestAt). x .best) (at .ensures)) (c .before .before .before .before .before .before .if2 .taken) (left .result)
+            (λ j l. ap (λ (v : List Float). nth v j) (left .ensures (s .args .altitude))
+            ∙ fill-at _ (replicate 32 nought) (s .args .n) j (s .pre .0) l) (c .before .decided .result)
+            (c .before .decided .ensures .0 (at .result .best .fit)),
         c .before .decided .ensures .1,
       ),
-      λ q. best-place (bestFitOver (heard s) (has (s .args .state .included)) (before (s .args .state))) (at .result) (at .ensures) (c .before .before .before .before .before .before .if2 .taken),
+      λ q. best-place (bestFitOver (heard s) (has (s .args .state .included)) (before (s .args .state))) (at .result) (at .ensures)
+          (c .before .before .before .before .before .before .if2 .taken),
     )
 
 of-unfit-requires : tie.Need-of-unfit-requires
@@ -86,7 +95,11 @@ returns-3 c =
     let n = c .before .before .before .before .before .before .before .count in
     let at = c .before .before .before .before .fit-included in (
       (
-        λ reference. ap (λ (x : Step). stepOf (x .turn) (x .fit)) (c .ended2 .ensures) ∙ ap ends (c .before .of-unfit .ensures) ∙ round-unfit (heard s) (s .args .kept) reference (s .pre .0) (s .args .state .included) (s .pre .1) (before (s .args .state)) (n .result) (n .ensures) (rw (c .before .before .before .before .before .before .minimum .ensures) at (c .before .before .before .before .before .if1 .left)) (at .result .best) (ap (λ (x : BestAt). x .best) (at .ensures)) (c .before .before .if2 .left),
+        λ reference. ap (λ (x : Step). stepOf (x .turn) (x .fit)) (c .ended2 .ensures) ∙ ap ends (c .before .of-unfit .ensures)
+            ∙ round-unfit (heard s) (s .args .kept) reference (s .pre .0) (s .args .state .included) (s .pre .1) (before (s .args .state)) (n .result)
+            (n .ensures) (rw (c .before .before .before .before .before .before .minimum .ensures) at
+            (c .before .before .before .before .before .if1 .left)) (at .result .best) (ap (λ (x : BestAt). x .best) (at .ensures))
+            (c .before .before .if2 .left),
         λ m q. absurd (no-change _ m (ap (λ (x : Step). x .turn) (sym (c .ended2 .ensures)) ∙ q)),
       ),
       λ q. absurd (no-settling _ (ap (λ (x : Step). x .turn) (sym (c .ended2 .ensures)) ∙ q)),

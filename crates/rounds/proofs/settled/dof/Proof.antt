@@ -25,7 +25,12 @@ less-four-requires-2 : tie.Need-less-four-requires-2
 less-four-requires-2 c κs = search needs
 
 returns-2 : tie.Need-returns-2
-returns-2 c = rw (← c .before .before .has-altitude .ensures, c .before .if1 .left, ← c .before .before .before .count .ensures, c .less-four2 .ensures) (omega arith)
+returns-2 c = rw (
+  ← c .before .before .has-altitude .ensures,
+  c .before .if1 .left,
+  ← c .before .before .before .count .ensures,
+  c .less-four2 .ensures,
+) (omega arith)
 
 pub dof-spec : {M : Type 1} → statement M
 dof-spec =

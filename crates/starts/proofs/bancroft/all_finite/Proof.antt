@@ -33,7 +33,8 @@ is-finite-requires-4 : tie.Need-is-finite-requires-4
 is-finite-requires-4 c κs = search needs
 
 -- the first two passed, and the third was tested
-third : (c : tie.After-is-finite3) → allFinite (c .before .before .before .before .before .args .t1) ≡ c .is-finite3 .result && isFinite (nth (c .before .before .before .before .before .args .t1) 3)
+third : (c : tie.After-is-finite3) → allFinite (c .before .before .before .before .before .args .t1) ≡ c .is-finite3 .result
+    && isFinite (nth (c .before .before .before .before .before .args .t1) 3)
 unfolding allFinite
 third c =
     let second = c .before .before in

@@ -35,7 +35,16 @@ loop-less c = search needs
 
 loop-again : tie.Need-loop-again Inv-loop μ-loop
 unfolding rhsTo
-loop-again c = (omega arith, rw (add-one, c .plus-multiple .ensures, c .before .rhs .ensures, c .before .before .row-at .ensures, c .before .before .before .before .loop .inv .1))
+loop-again c = (
+  omega arith,
+  rw (
+    add-one,
+    c .plus-multiple .ensures,
+    c .before .rhs .ensures,
+    c .before .before .row-at .ensures,
+    c .before .before .before .before .loop .inv .1,
+  ),
+)
 
 returns : tie.Need-returns Inv-loop μ-loop
 returns c = let e : c .before .loop .i ≡ c .before .before .args .k = omega arith in rw (← e, c .before .loop .inv .1)

@@ -18,7 +18,12 @@ with-places-requires c κs = search needs
 
 returns : tie.Need-returns
 unfolding crossed
-returns c = rw (← c .before .before .before .lorentz .ensures, ← c .before .before .lorentz2 .ensures, ← c .before .lorentz3 .ensures, ← c .with-places .ensures)
+returns c = rw (
+  ← c .before .before .before .lorentz .ensures,
+  ← c .before .before .lorentz2 .ensures,
+  ← c .before .lorentz3 .ensures,
+  ← c .with-places .ensures,
+)
 
 pub with-crossed-spec : {M : Type 1} → statement M
 with-crossed-spec = tie.close (tie.spec lorentz-requires lorentz-requires-2 lorentz-requires-3 with-places-requires returns)

@@ -1,4 +1,5 @@
--- `starts::bancroft::with_places` meets its contract: each return is one case of `lambdas`: no root, one or two (`no-place`, `two-places`). Assumes nothing.
+-- `starts::bancroft::with_places` meets its contract: each return is one case of `lambdas`: no root, one or two (`no-place`, `two-places`). Assumes
+-- nothing.
 use borrow.Author.Needs.{needs}
 use mathlib.Core.Path.{_∙_}
 use Rattle.starts.specs.Bancroft.{lambdas}
@@ -24,7 +25,8 @@ returns c =
 
 returns-2 : tie.Need-returns-2
 unfolding lambdas
-returns-2 c = rw (tiny, ← c .before .before .before .abs .ensures, c .before .before .if1 .taken, ← c .before .abs2 .ensures, c .if2 .left) (no-place _ _ _ _)
+returns-2 c = rw (tiny, ← c .before .before .before .abs .ensures, c .before .before .if1 .taken, ← c .before .abs2 .ensures, c .if2 .left)
+    (no-place _ _ _ _)
 
 sqrt-requires : tie.Need-sqrt-requires
 sqrt-requires c κs = search needs

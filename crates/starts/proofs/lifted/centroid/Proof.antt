@@ -38,11 +38,21 @@ loop-less c = search needs
 
 loop-again : tie.Need-loop-again Inv-loop μ-loop
 unfolding centroidTo
-loop-again c = (omega arith, rw (add-one, c .add .ensures, c .before .scale .ensures, c .before .before .site .ensures, c .before .before .before .before .loop .inv .1))
+loop-again c = (
+  omega arith,
+  rw (
+    add-one,
+    c .add .ensures,
+    c .before .scale .ensures,
+    c .before .before .site .ensures,
+    c .before .before .before .before .loop .inv .1,
+  ),
+)
 
 returns : tie.Need-returns Inv-loop μ-loop
 unfolding centroid
-returns c = let e : c .before .loop .i ≡ c .before .before .before .args .k = omega arith in rw (← c .before .before .size .ensures, ← e, c .before .loop .inv .1)
+returns c = let e : c .before .loop .i ≡ c .before .before .before .args .k = omega arith in
+    rw (← c .before .before .size .ensures, ← e, c .before .loop .inv .1)
 
 pub centroid-spec : {M : Type 1} → statement M
 centroid-spec =

@@ -45,7 +45,8 @@ array-read-t20 c = search needs
 
 returns : tie.Need-returns Inv-loop μ-loop
 unfolding timed
-returns c = let e : c .before .before .loop .i ≡ c .before .before .before .args .k = omega arith in rw (c .size .ensures, c .before .before .loop .inv .1, e)
+returns c = let e : c .before .before .loop .i ≡ c .before .before .before .args .k = omega arith in
+    rw (c .size .ensures, c .before .before .loop .inv .1, e)
 
 pub timed-spec : {M : Type 1} → statement M
 timed-spec =

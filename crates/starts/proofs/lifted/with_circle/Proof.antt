@@ -1,4 +1,5 @@
--- `starts::lifted::with_circle` meets its contract: the invariant: the starts of the first `step` bearings are packed (`circle-more`). Assumes nothing.
+-- `starts::lifted::with_circle` meets its contract: the invariant: the starts of the first `step` bearings are packed (`circle-more`). Assumes
+-- nothing.
 use borrow.Author.Needs.{needs}
 use mathlib.Core.Path.{_≡_, refl}
 use Prim.Native.Nat.{_≤_, _-_}
@@ -11,7 +12,8 @@ use Rattle.starts.proofs.lifted.with_circle.Statement.{statement}
 use Rattle.starts.proofs.lifted.with_circle.Tie as tie
 
 abbrev Inv-loop : tie.InvT-loop
-Inv-loop sites z k height centroid basis radius all₀ step₀ all step = (step ≤ 8) × (all ≡ packed all₀ (circleTo sites z k height centroid basis radius step))
+Inv-loop sites z k height centroid basis radius all₀ step₀ all step = (step ≤ 8)
+    × (all ≡ packed all₀ (circleTo sites z k height centroid basis radius step))
 
 abbrev μ-loop : tie.MeasureT-loop
 μ-loop sites z k height centroid basis radius all₀ step₀ all step = 8 - step

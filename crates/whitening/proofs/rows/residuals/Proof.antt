@@ -20,7 +20,10 @@ raw-residuals-requires c κs =
     (s .pre .0, subst (λ (y : List Float). s .args .k ≤ length y) (sym (s .pre .2)) (s .pre .0))
 
 forward-requires : tie.Need-forward-requires
-forward-requires c κs = (omega (arith, room (c .before .before .before .before .before .args .k) (omega arith), (c .before), c), omega (arith, (c .before), c))
+forward-requires c κs = (
+  omega (arith, room (c .before .before .before .before .before .args .k) (omega arith), (c .before), c),
+  omega (arith, (c .before), c),
+)
 
 squares-requires : tie.Need-squares-requires
 squares-requires c κs = search needs
@@ -32,9 +35,12 @@ returns c =
     let raws = c .before .before .before .before .before .raw-residuals .ensures in
     let l = now (at .l) in
     let f = raw (now (at .sites)) (now (at .z)) (at .p) 0 in
-    let solved = c .before .before .forward .ensures ∙ ap (λ (y : List Float). forward l (at .k) y) (raws .0 ∙ ap (λ (y : List Float). fillTo f y (at .k)) (pre .1)) in
-    let long : length (forward l (at .k) (fillTo f blank (at .k))) ≡ 33 = room-left l f blank (at .k) (at .k) in
-    ((subst (λ (y : List Float). at .k < length y) (sym solved) (omega (arith, long)), solved), (raws .1 ∙ ap (λ (y : List Float). fillTo (rangeAt (now (at .sites)) (at .p)) y (at .k)) (pre .2), c .squares .ensures))
+    let solved = c .before .before .forward .ensures
+    ∙ ap (λ (y : List Float). forward l (at .k) y) (raws .0 ∙ ap (λ (y : List Float). fillTo f y (at .k)) (pre .1)) in
+    let long : length (forward l (at .k) (fillTo f blank (at .k))) ≡ 33 = room-left l f blank (at .k) (at .k) in (
+      (subst (λ (y : List Float). at .k < length y) (sym solved) (omega (arith, long)), solved),
+      (raws .1 ∙ ap (λ (y : List Float). fillTo (rangeAt (now (at .sites)) (at .p)) y (at .k)) (pre .2), c .squares .ensures),
+    )
 
 pub residuals-spec : {M : Type 1} → statement M
 residuals-spec =

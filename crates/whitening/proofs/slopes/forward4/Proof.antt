@@ -1,4 +1,5 @@
--- `whitening::slopes::forward4` meets its contract. The invariant: each array is solved in its rows below i, and the others hold what they brought (`forward-row`). The measure is what is left of n. Assumes nothing.
+-- `whitening::slopes::forward4` meets its contract. The invariant: each array is solved in its rows below i, and the others hold what they brought
+-- (`forward-row`). The measure is what is left of n. Assumes nothing.
 use borrow.Author.Needs.{needs}
 use mathlib.Core.Path.{_≡_, refl, _∙_}
 use Prim.Native.Nat.{_≤_, _<_, _+_, _*_, _-_}
@@ -10,7 +11,8 @@ use Rattle.whitening.proofs.slopes.forward4.Statement.{statement}
 use Rattle.whitening.proofs.slopes.forward4.Tie as tie
 
 abbrev Inv-loop : tie.InvT-loop
-Inv-loop l n a₀ b₀ c₀ d₀ i₀ a b c d i = (i ≤ n) × (a ≡ forwardTo l n a₀ i) × (b ≡ forwardTo l n b₀ i) × (c ≡ forwardTo l n c₀ i) × (d ≡ forwardTo l n d₀ i)
+Inv-loop l n a₀ b₀ c₀ d₀ i₀ a b c d i = (i ≤ n) × (a ≡ forwardTo l n a₀ i) × (b ≡ forwardTo l n b₀ i) × (c ≡ forwardTo l n c₀ i)
+    × (d ≡ forwardTo l n d₀ i)
 
 abbrev μ-loop : tie.MeasureT-loop
 μ-loop l n a₀ b₀ c₀ d₀ i₀ a b c d i = n - i
@@ -88,7 +90,8 @@ loop-less c = search needs
 
 loop-again : tie.Need-loop-again Inv-loop μ-loop
 loop-again c =
-    let v = c .before .before .before .before .before .before .before .before .before .before .before .before .before .before .before .before .loop .inv in
+    let v = c .before .before .before .before .before .before .before .before .before .before .before .before .before .before .before
+    .before .loop .inv in
     let w = c .before .before .before .before .before .before .minus-dots4 .ensures in
     let put = c .put-slopes .ensures in (
       omega arith,

@@ -1,4 +1,5 @@
--- `whitening::slopes::minus_dots4` meets its contract. The invariant: each sum has its first k products taken off. The measure is what is left of i. Assumes nothing.
+-- `whitening::slopes::minus_dots4` meets its contract. The invariant: each sum has its first k products taken off. The measure is what is left of i.
+-- Assumes nothing.
 use borrow.Author.Needs.{needs}
 use mathlib.Core.Path.{_≡_, refl}
 use Prim.Native.Nat.{_≤_, _<_, _+_, _*_, _-_}
@@ -10,7 +11,8 @@ use Rattle.whitening.proofs.slopes.minus_dots4.Statement.{statement}
 use Rattle.whitening.proofs.slopes.minus_dots4.Tie as tie
 
 abbrev Inv-loop : tie.InvT-loop
-Inv-loop l n i a b c d v0₀ v1₀ v2₀ v3₀ start k₀ v0 v1 v2 v3 k = (k ≤ i) × (v0 ≡ minusDots (at l n i) (nth a) k v0₀) × (v1 ≡ minusDots (at l n i) (nth b) k v1₀) × (v2 ≡ minusDots (at l n i) (nth c) k v2₀) × (v3 ≡ minusDots (at l n i) (nth d) k v3₀)
+Inv-loop l n i a b c d v0₀ v1₀ v2₀ v3₀ start k₀ v0 v1 v2 v3 k = (k ≤ i) × (v0 ≡ minusDots (at l n i) (nth a) k v0₀)
+    × (v1 ≡ minusDots (at l n i) (nth b) k v1₀) × (v2 ≡ minusDots (at l n i) (nth c) k v2₀) × (v3 ≡ minusDots (at l n i) (nth d) k v3₀)
 
 abbrev μ-loop : tie.MeasureT-loop
 μ-loop l n i a b c d v0₀ v1₀ v2₀ v3₀ start k₀ v0 v1 v2 v3 k = i - k

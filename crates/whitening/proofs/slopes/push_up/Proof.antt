@@ -1,4 +1,5 @@
--- `whitening::slopes::push_up` meets its contract. By the kinds of altitude: the promises of `up_row` and `put_slopes` (`barometric-up`, `gnss-up`). Assumes nothing.
+-- `whitening::slopes::push_up` meets its contract. By the kinds of altitude: the promises of `up_row` and `put_slopes` (`barometric-up`, `gnss-up`).
+-- Assumes nothing.
 use borrow.Author.Needs.{needs}
 use native.Mathlib.Omega.{arith}
 use denote.Ref.{now}
@@ -39,14 +40,22 @@ returns c = (omega arith, λ r. rw (c .enum-told .given .1))
 returns-2 : tie.Need-returns-2
 returns-2 c =
     let at = c .before .before .before .before .before .before .before .before .before .args in
-    let row = c .before .before .before .before .before .up-row .result in
-    (omega arith, barometric-up (at .altitude) _ (at .geodetic) (at .k) row (now (at .a)) (now (at .b)) (now (at .c)) (now (at .d)) (c .put-slopes .ensures) (c .before .before .before .before .before .before .before .altitude .given .1) (c .before .before .before .before .before .up-row .ensures))
+    let row = c .before .before .before .before .before .up-row .result in (
+      omega arith,
+      barometric-up (at .altitude) _ (at .geodetic) (at .k) row (now (at .a)) (now (at .b)) (now (at .c)) (now (at .d))
+          (c .put-slopes .ensures) (c .before .before .before .before .before .before .before .altitude .given .1)
+          (c .before .before .before .before .before .up-row .ensures),
+    )
 
 returns-3 : tie.Need-returns-3
 returns-3 c =
     let at = c .before .before .before .before .before .before .before .before .before .args in
-    let row = c .before .before .before .before .before .up-row2 .result in
-    (omega arith, gnss-up (at .altitude) _ (at .geodetic) (at .k) row (now (at .a)) (now (at .b)) (now (at .c)) (now (at .d)) (c .put-slopes2 .ensures) (c .before .before .before .before .before .before .before .altitude2 .given .1) (c .before .before .before .before .before .up-row2 .ensures))
+    let row = c .before .before .before .before .before .up-row2 .result in (
+      omega arith,
+      gnss-up (at .altitude) _ (at .geodetic) (at .k) row (now (at .a)) (now (at .b)) (now (at .c)) (now (at .d))
+          (c .put-slopes2 .ensures) (c .before .before .before .before .before .before .before .altitude2 .given .1)
+          (c .before .before .before .before .before .up-row2 .ensures),
+    )
 
 pub push-up-spec : {M : Type 1} → statement M
 push-up-spec =

@@ -1,4 +1,5 @@
--- `whitening::slopes::raw_slopes` meets its contract. The invariant: each array is filled below i. The range of a turn is the one lent (`fill-at`). The measure is what is left of k. Assumes nothing.
+-- `whitening::slopes::raw_slopes` meets its contract. The invariant: each array is filled below i. The range of a turn is the one lent (`fill-at`).
+-- The measure is what is left of k. Assumes nothing.
 use borrow.Author.Needs.{needs}
 use mathlib.Core.Path.{_≡_, refl, ap, _∙_}
 use mathlib.Core.List.{List}
@@ -15,7 +16,8 @@ use Rattle.whitening.proofs.slopes.raw_slopes.Statement.{statement}
 use Rattle.whitening.proofs.slopes.raw_slopes.Tie as tie
 
 abbrev Inv-loop : tie.InvT-loop
-Inv-loop sites k p ranges a₀ b₀ c₀ d₀ i₀ a b c d i = (i ≤ k) × (a ≡ fillTo (slopeAt sites p 0) a₀ i) × (b ≡ fillTo (slopeAt sites p 1) b₀ i) × (c ≡ fillTo (slopeAt sites p 2) c₀ i) × (d ≡ fillTo (λ i. neg one) d₀ i)
+Inv-loop sites k p ranges a₀ b₀ c₀ d₀ i₀ a b c d i = (i ≤ k) × (a ≡ fillTo (slopeAt sites p 0) a₀ i) × (b ≡ fillTo (slopeAt sites p 1) b₀ i)
+    × (c ≡ fillTo (slopeAt sites p 2) c₀ i) × (d ≡ fillTo (λ i. neg one) d₀ i)
 
 abbrev μ-loop : tie.MeasureT-loop
 μ-loop sites k p ranges a₀ b₀ c₀ d₀ i₀ a b c d i = k - i
@@ -33,8 +35,11 @@ element-copy-out-slope-row c = search needs
 slope-row-requires : tie.Need-slope-row-requires Inv-loop μ-loop
 slope-row-requires c κs =
     let at = c .before .before .before .args in
-    let i = c .before .before .loop .i in
-    (omega arith, ap (λ (y : List Float). nth y i) (c .before .before .before .pre .1) ∙ fill-at (rangeAt (now (at .sites)) (at .p)) _ (at .k) i (omega arith) (omega arith))
+    let i = c .before .before .loop .i in (
+      omega arith,
+      ap (λ (y : List Float). nth y i) (c .before .before .before .pre .1)
+          ∙ fill-at (rangeAt (now (at .sites)) (at .p)) _ (at .k) i (omega arith) (omega arith),
+    )
 
 put-slopes-requires : tie.Need-put-slopes-requires Inv-loop μ-loop
 put-slopes-requires c κs = search needs

@@ -19,8 +19,12 @@ returns : tie.Need-returns
 returns c =
     let at = c .before .before .before .before .before .before .before .before .before .before .before .before .before .before .before .args in
     let pre = c .before .before .before .before .before .before .before .before .before .before .before .before .before .before .before .pre in
-    let last = c .push-up .ensures in
-    (last .0, λ z. slopes-joined (chosen (at .k) (now (at .sites)) z (now (at .l)) (at .altitude)) (at .p) (at .geodetic) (pre .1 .1 .0) _ (pre .1 .1 .1) (c .before .before .before .before .before .before .before .before .before .before .raw-slopes .ensures) (c .before .before .before .before .before .forward4 .ensures) (last .1))
+    let last = c .push-up .ensures in (
+      last .0,
+      λ z. slopes-joined (chosen (at .k) (now (at .sites)) z (now (at .l)) (at .altitude)) (at .p) (at .geodetic) (pre .1 .1 .0) _
+          (pre .1 .1 .1) (c .before .before .before .before .before .before .before .before .before .before .raw-slopes .ensures)
+          (c .before .before .before .before .before .forward4 .ensures) (last .1),
+    )
 
 pub slopes-spec : {M : Type 1} → statement M
 slopes-spec =

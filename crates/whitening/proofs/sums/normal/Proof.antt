@@ -1,4 +1,5 @@
--- `whitening::sums::normal` meets its contract. The invariant: the sums hold the first i rows. The measure is what is left of `count`. Assumes nothing.
+-- `whitening::sums::normal` meets its contract. The invariant: the sums hold the first i rows. The measure is what is left of `count`. Assumes
+-- nothing.
 use borrow.Author.Needs.{needs}
 use mathlib.Core.Path.{_≡_, refl}
 use Prim.Native.Nat.{_≤_, _-_}
@@ -10,7 +11,11 @@ use Rattle.whitening.proofs.sums.normal.Statement.{statement}
 use Rattle.whitening.proofs.sums.normal.Tie as tie
 
 abbrev Inv-loop : tie.InvT-loop
-Inv-loop r a b c d count information₀ gradient₀ cost₀ i₀ information gradient cost i = (i ≤ count) × (record { information = information; gradient = gradient; cost = cost } ≡ normalTo (rows count r a b c d) i)
+Inv-loop r a b c d count information₀ gradient₀ cost₀ i₀ information gradient cost i = (i ≤ count) × (record {
+  information = information;
+  gradient = gradient;
+  cost = cost;
+} ≡ normalTo (rows count r a b c d) i)
 
 abbrev μ-loop : tie.MeasureT-loop
 μ-loop r a b c d count information₀ gradient₀ cost₀ i₀ information gradient cost i = count - i
@@ -62,7 +67,11 @@ loop-less : tie.Need-loop-less Inv-loop μ-loop
 loop-less c = search needs
 
 loop-again : tie.Need-loop-again Inv-loop μ-loop
-loop-again c = (omega arith, normal-row _ _ _ _ _ _ _ (c .before .before .before .before .before .before .before .before .loop .inv .1) (c .before .plus-multiple .ensures) (c .plus-products .ensures))
+loop-again c = (
+  omega arith,
+  normal-row _ _ _ _ _ _ _ (c .before .before .before .before .before .before .before .before .loop .inv .1)
+      (c .before .plus-multiple .ensures) (c .plus-products .ensures),
+)
 
 returns : tie.Need-returns Inv-loop μ-loop
 returns c =

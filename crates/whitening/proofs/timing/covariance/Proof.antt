@@ -1,4 +1,5 @@
--- `whitening::timing::covariance` meets its contract. The invariant: the rows and columns below a are stored. The measure is what is left of k. Assumes nothing.
+-- `whitening::timing::covariance` meets its contract. The invariant: the rows and columns below a are stored. The measure is what is left of k.
+-- Assumes nothing.
 use borrow.Author.Needs.{needs}
 use mathlib.Core.Path.{_≡_, refl}
 use Prim.Native.Nat.{_≤_, _-_}

@@ -1,4 +1,5 @@
--- `whitening::timing::covariance_row` meets its contract. The invariant: the places of a and each b' from a to below b hold their values. The measure is what is left of k. Assumes nothing.
+-- `whitening::timing::covariance_row` meets its contract. The invariant: the places of a and each b' from a to below b hold their values. The measure
+-- is what is left of k. Assumes nothing.
 use borrow.Author.Needs.{needs}
 use mathlib.Core.Path.{_≡_}
 use Prim.Native.Nat.{ℕ, suc, _≤_, _<_, _+_, _*_, _-_}

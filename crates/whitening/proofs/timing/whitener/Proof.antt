@@ -1,4 +1,5 @@
--- `whitening::timing::whitener` meets its contract: the promises of `zeros`, `covariance` and `cholesky`, put together. The matrix has the size k (`sized`). Assumes nothing.
+-- `whitening::timing::whitener` meets its contract: the promises of `zeros`, `covariance` and `cholesky`, put together. The matrix has the size k
+-- (`sized`). Assumes nothing.
 use borrow.Author.Needs.{needs}
 use mathlib.Core.Path.{_≡_, ap, _∙_}
 use native.Mathlib.Omega.{arith}
@@ -24,7 +25,10 @@ cholesky-requires c κs = let s = c .before .before .before .before .before in o
 
 returns : tie.Need-returns
 unfolding whitener
-returns c = c .cholesky .ensures ∙ rw (c .before .before .before .before .covariance .ensures, c .before .before .before .before .before .before .zeros .ensures)
+returns c = c .cholesky .ensures ∙ rw (
+  c .before .before .before .before .covariance .ensures,
+  c .before .before .before .before .before .before .zeros .ensures,
+)
 
 pub whitener-spec : {M : Type 1} → statement M
 whitener-spec = tie.close (tie.spec zeros-requires covariance-requires cholesky-requires returns)

@@ -1,4 +1,5 @@
--- `linalg::cholesky::Cholesky::backward` meets its contract: a size up to 32 has room (`room`), and the rest is what the kernel ensures. Assumes nothing.
+-- `linalg::cholesky::Cholesky::backward` meets its contract: a size up to 32 has room (`room`), and the rest is what the kernel ensures. Assumes
+-- nothing.
 use borrow.Author.Needs.{needs}
 use native.Mathlib.Omega.{arith}
 use Rattle.dense.proofs.Places.{room}

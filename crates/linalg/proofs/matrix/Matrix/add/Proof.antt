@@ -1,4 +1,5 @@
--- `linalg::matrix::Matrix::add` meets its contract: a size up to 32 has room (`room`), and the sum is that of the entry which `at` ensures. Assumes nothing.
+-- `linalg::matrix::Matrix::add` meets its contract: a size up to 32 has room (`room`), and the sum is that of the entry which `at` ensures. Assumes
+-- nothing.
 use native.Mathlib.Omega.{arith}
 use Rattle.dense.proofs.Places.{room}
 use Rattle.linalg.proofs.matrix.Matrix.add.Statement.{statement}
