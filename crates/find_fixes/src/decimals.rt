@@ -108,7 +108,7 @@ fn parsed(text: &[u8]) -> Number {
 }
 
 // The number that argument i is.
-pub fn number_at(i: usize) -> Number {
+pub(crate) fn number_at(i: usize) -> Number {
     let mut text = [0u8; 64];
     let n = os::arg(i, &mut text);
     parsed(&text[..n])
