@@ -24,7 +24,7 @@ use Rattle.damped.specs.declared.Stepped.{Stepped}
 use Rattle.damped.specs.declared.Verdict.the-variants.{Accepted, Converged, Rejected, Stopped, Failed}
 use Rattle.damped.specs.Damped.{dampedTo, solved, descent, moved, below, small, better, accepted, rejected, step, fitted, unfitted, plain, after, run}
 use Rattle.damped.specs.Damped.{started, levenbergMarquardt}
-use Rattle.damped.proofs.Squares.{clear, add-clear, square-clear}
+use Rattle.binary64.proofs.Clear.{clear, add-clear, square-clear}
 
 -- ---- sums of squares
 

@@ -1,2 +1,2 @@
--- The order of floats, as damped has it. Assumes nothing.
-pub use Rattle.damped.proofs.Order.{lt-split, lt-asym, lt-right, le-left, lt-trans, le-of-not-lt, lt-of-not-le, le-lt}
+-- The order of floats, as binary64 has it. Assumes nothing.
+pub use Rattle.binary64.proofs.Less.{lt-split, lt-asym, lt-right, le-left, lt-trans, le-of-not-lt, lt-of-not-le, le-lt}

@@ -22,8 +22,9 @@ use Rattle.whitening.specs.declared.Equations.{Equations}
 use Rattle.damped.specs.declared.Lm.{Lm}
 use Rattle.damped.specs.declared.Stepped.{Stepped}
 use Rattle.damped.specs.Damped.{better, accepted, rejected, tried}
-use Rattle.damped.proofs.Order.{lt-split, lt-right, le-lt}
-use Rattle.damped.proofs.Squares.{clear, square-clear, more-none, cost-clear, cost-fits, grows}
+use Rattle.binary64.proofs.Less.{lt-split, lt-right, le-lt}
+use Rattle.binary64.proofs.Clear.{clear, square-clear}
+use Rattle.damped.proofs.Squares.{more-none, cost-clear, cost-fits, grows}
 
 refuted : (b : Bool) → (T b → ⊥) → b ≡ false
 refuted true h = absurd (h tt)
