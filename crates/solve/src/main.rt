@@ -4,8 +4,7 @@
 //     solve [FOLDER]    the current folder, if none is named
 //
 // A file that is absent is an absent input. One that is there and cannot be read is said on standard error, as are a
-// folder that cannot be opened and other arguments, and then nothing is written. An output that fails is said there
-// too.
+// folder that cannot be opened and other arguments, and then nothing is written. An output that fails is said there.
 use libc::STDERR_FILENO;
 use libc::STDOUT_FILENO;
 

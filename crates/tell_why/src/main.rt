@@ -1,12 +1,11 @@
 // Reads receptions.bin, clock.bin, altitude.bin and reference.bin from a folder, and writes why each receiver is used
-// or missing to standard output: 8 bytes, the answer number and its detail, u32 each, and a buffer of 640 bytes with
-// the states of the receptions (document 02, item 9), zeros past the last. `./why` shows it to a person.
+// or missing to standard output: 8 bytes, the answer number and its detail, u32 each, a buffer of 640 bytes with the
+// states of the receptions (document 02, item 9), zeros past the last. `./why` shows it to a person.
 //
 //     tell_why [FOLDER]    the current folder, if none is named
 //
 // A file that is absent is an absent input. One that is there and cannot be read is said on standard error, as are a
-// folder that cannot be opened and other arguments, and then nothing is written. An output that fails is said there
-// too.
+// folder that cannot be opened and other arguments, and then nothing is written. An output that fails is said there.
 use libc::STDERR_FILENO;
 use libc::STDOUT_FILENO;
 
