@@ -2,9 +2,6 @@
 // geodesy, claims, solve, states, records, positions, archives, algebra, nearby, displays, planning). Each function
 // takes every value and demands nothing. An array of fixed length that is lent as `&mut` is written whole, or stays as
 // it was where the call is refused.
-// geodesy, claims, solve, states, records, positions, archives, algebra, nearby, displays, planning).
-// Each function takes every value and demands nothing. An array of fixed length that is lent as `&mut` is written
-// whole, or stays as it was where the call is refused.
 mod algebra;
 mod archives;
 mod claims;
