@@ -123,7 +123,15 @@ pub fn solve_problem(p: Problem) -> Answer
     let site = p.site;
     let z = p.z;
     let noise = p.noise_m2;
-    let clock = p.clock_m2;
     let kept = screen::screen(&time, &site_mm, n);
-    outlier_rounds(&site, &z, &noise, &clock, n, altitude, reference_ps, kept)
+    outlier_rounds(
+        &site,
+        &z,
+        &noise,
+        &p.clock_m2,
+        n,
+        altitude,
+        reference_ps,
+        kept,
+    )
 }
