@@ -263,16 +263,14 @@ fn upper_at(clock: &[u8], n: usize, k: usize) -> f64
     0.0
 }
 
-// The clock covariance of n receptions.
-fn covariance_of(clock: &[u8], n: usize) -> [f64; 1024]
-    requires { ⌜ (n ≤ 32) × (length (now clock) ≡ 8 * (n * n)) ⌝ }
-    ensures { λ r. ⌜ r ≡ fillTo (floats 1024) (inputs.upperAt (now (clock .entry)) n) (n * n) ⌝ }
+// The clock covariance of n receptions, into an array of zeros.
+fn put_covariance(clock: &[u8], n: usize, out: &mut [f64; 1024])
+    requires { ⌜ (n ≤ 32) × (length (now clock) ≡ 8 * (n * n)) × (now out ≡ floats 1024) ⌝ }
+    ensures { λ _. ⌜ now (out .exit) ≡ fillTo (floats 1024) (inputs.upperAt (now (clock .entry)) n) (n * n) ⌝ }
 {
-    let mut out = [0.0; 1024];
     for k in 0..n * n {
         out[k] = upper_at(clock, n, k);
     }
-    out
 }
 
 // Barometric metres with a correction in centimetres. 0 is not added: -0 metres stay -0.
@@ -340,7 +338,6 @@ pub fn problem_of(
         (now (clock .entry)) (now (altitude .entry)) (now (reference .entry))) r) ⌝ }
 {
     let site = metres_of(&f.site_mm, n);
-    let clock_m2 = covariance_of(clock, n);
     let solved_with = altitude_of(g.altitude, altitude);
     let reference_ps = reference_of(g.reference, reference);
     let shown = shown_of(g.altitude, altitude);
@@ -348,16 +345,18 @@ pub fn problem_of(
     let site_mm = f.site_mm;
     let z = f.z;
     let noise_m2 = f.noise_m2;
-    Problem {
+    let mut p = Problem {
         n,
         time,
         site_mm,
         site,
         z,
         noise_m2,
-        clock_m2,
+        clock_m2: [0.0; 1024],
         altitude: solved_with,
         reference_ps,
         shown,
-    }
+    };
+    put_covariance(clock, n, &mut p.clock_m2);
+    p
 }

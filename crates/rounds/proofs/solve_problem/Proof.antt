@@ -21,11 +21,12 @@ outlier-rounds-requires c κs = (
 returns : tie.Need-returns
 returns c =
     let start = c .before .before .before .before .before .before .before .before .before .before .before .before .before .before .before in
+    let told = c .before .before .before .before .before .before .before .before .before .before .before .before .before .before in
     let p = start .args .t1 in
     c .outlier-rounds .ensures
     ∙ ap asAnswer (of-problem p _ (toZ w64 (ofZ w64 (p .«reference_ps»))) (c .before .before .before .before .before .before .screen .ensures .0)
     (toZ-ofZ w64 (p .«reference_ps») (record {
-      sfits = c .before .before .before .before .before .before .before .before .before .before .before .before .before .before .struct-told .given .1 .1 .1 .1 .1 .1 .1 .1 .0 .1;
+      sfits = told .struct-told .given .1 .1 .1 .1 .1 .1 .1 .1 .0 .1;
     })))
 
 pub solve-problem-spec : {M : Type 1} → statement M
