@@ -117,12 +117,13 @@ pub fn solve_problem(p: Problem) -> Answer
 {
     let n = p.n;
     let altitude = p.altitude;
-    let reference = p.reference_ps;
+    let reference_ps = p.reference_ps;
     let time = p.time;
     let site_mm = p.site_mm;
     let site = p.site;
     let z = p.z;
     let noise = p.noise_m2;
+    let clock = p.clock_m2;
     let kept = screen::screen(&time, &site_mm, n);
-    outlier_rounds(&site, &z, &noise, &p.clock_m2, n, altitude, reference, kept)
+    outlier_rounds(&site, &z, &noise, &clock, n, altitude, reference_ps, kept)
 }

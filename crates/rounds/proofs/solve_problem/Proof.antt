@@ -14,19 +14,19 @@ screen-requires c κs = search needs
 
 outlier-rounds-requires : tie.Need-outlier-rounds-requires
 outlier-rounds-requires c κs = (
-  c .before .before .before .before .before .before .before .before .before .before .before .before .before .before .pre,
-  c .before .before .before .before .before .screen .ensures .1,
+  c .before .before .before .before .before .before .before .before .before .before .before .before .before .before
+      .pre,
+  c .before .before .before .before .screen .ensures .1,
 )
 
 returns : tie.Need-returns
 returns c =
-    let start = c .before .before .before .before .before .before .before .before .before .before .before .before .before .before .before in
-    let told = c .before .before .before .before .before .before .before .before .before .before .before .before .before .before in
-    let p = start .args .t1 in
+    let p = c .before .before .before .before .before .before .before .before .before .before .before .before .before .before .before .args .p in
     c .outlier-rounds .ensures
-    ∙ ap asAnswer (of-problem p _ (toZ w64 (ofZ w64 (p .«reference_ps»))) (c .before .before .before .before .before .before .screen .ensures .0)
+    ∙ ap asAnswer (of-problem p _ (toZ w64 (ofZ w64 (p .«reference_ps»))) (c .before .before .before .before .before .screen .ensures .0)
     (toZ-ofZ w64 (p .«reference_ps») (record {
-      sfits = told .struct-told .given .1 .1 .1 .1 .1 .1 .1 .1 .0 .1;
+      sfits = c .before .before .before .before .before .before .before .before .before .before .before .before .before .before .struct-told .given
+          .1 .1 .1 .1 .1 .1 .1 .1 .0 .1;
     })))
 
 pub solve-problem-spec : {M : Type 1} → statement M
