@@ -1,5 +1,5 @@
 -- The best, as an index that code holds, and what is made of it. Assumes nothing.
-use mathlib.Core.Path.{_≡_, sym, ap, ap₂, subst, _∙_}
+use mathlib.Core.Path.{_≡_, refl, sym, ap, ap₂, subst, _∙_}
 use mathlib.Core.Option.{Option, none, some}
 use mathlib.Core.Bool.{Bool, true, false, _&&_}
 use mathlib.Core.List.{List, map}
@@ -16,7 +16,9 @@ use Rattle.linalg.specs.Methods.{zeros}
 use Rattle.problem.specs.Problem.{position}
 use Rattle.problem.specs.declared.Altitude.{Altitude}
 use Rattle.whitening.specs.Covariance.{whitener}
-use Rattle.whitening.specs.Whitened.{chosen}
+use Rattle.whitening.specs.Whitened.{Chosen, chosen, Rows, rows}
+use Rattle.whitening.specs.Whitened as whitening
+use Rattle.limits.specs.Limits.{roundingNorm}
 use Rattle.sets.specs.Sets.{Subset, count}
 use Rattle.sets.specs.Choice.{choose, indexOf}
 use Rattle.sets.proofs.Tests.{and-l}
@@ -29,12 +31,16 @@ use Rattle.best.specs.declared.BestAt.{BestAt}
 use Rattle.best.specs.Plausible.{plausible}
 use Rattle.best.specs.Best.{Outcome, gives, fails, asBest, explainsAlike, fitAt, cheaper, any, weighed, rival, bestOf, judged, best, whitened}
 use Rattle.best.specs.Best.{bestFit}
-use Rattle.best.specs.Held.{asBestAt}
+use Rattle.best.specs.Held.{normAt, asBestAt, arrayOf}
 use Rattle.best.proofs.Cheapest as cheapest
 
--- the best, or why there is none, beside a place
-abbrev held-at : Outcome Unfit Fit → Geodetic → BestAt
-held-at o g = record { best = asBest o; place = g }
+-- the best, or why there is none, beside a place and a norm
+abbrev held-at : Outcome Unfit Fit → Geodetic → Float → BestAt
+held-at o g x = record { best = asBest o; place = g; norm = x }
+
+pub norm-is : (C : Chosen) (params : List Float) (m : ℕ) (r a b c d : List Float) → rows m r a b c d ≡ whitening.whitened C params
+    → roundingNorm a b c d m ≡ normAt C params
+norm-is C params m r a b c d h = ap (λ (w : Rows). roundingNorm (w .a) (w .b) (w .c) (w .d) (w .count)) h
 
 -- what the code holds of the fits: how many they are, the set S of those that are weighed, and the index of the best, which is 32 for none
 pub record Held (sites : List Float) (k : ℕ) (fits : List Fit) (n top : ℕ) (S : Subset) : Type 0 where
@@ -79,9 +85,10 @@ module _ {sites : List Float} {k : ℕ} {fits : List Fit} {n top : ℕ} {S : Sub
     pub alone : r ≡ false → gives fit ≡ answer
     alone g = rw (some-is h, ← rivalled, g) (ap gives f)
 
-    -- beside it its place
-    pub alone-at : r ≡ false → (g : Geodetic) → g ≡ fromEcef (position (fit .params)) → held-at (gives fit) g ≡ asBestAt answer
-    alone-at q g e = ap (held-at (gives fit)) e ∙ ap asBestAt (alone q)
+    -- beside it its place and its norm
+    pub alone-at : r ≡ false → (C : Chosen) (g : Geodetic) (x : Float) → g ≡ fromEcef (position (fit .params)) → x ≡ normAt C (fit .params)
+        → held-at (gives fit) g x ≡ asBestAt C answer
+    alone-at q C g x e n = ap₂ (held-at (gives fit)) e n ∙ ap (asBestAt C) (alone q)
 
   module _ (r : Bool) (h : 32 ≤ top) (e : r ≡ any (λ fit. fit .ok) fits) where
     pub out-of-range : r ≡ true → fails OutOfRange ≡ answer
@@ -101,12 +108,28 @@ module _ (clock : List Float) (n : ℕ) (noise : List Float) (index : List ℕ) 
   unfolding bestFit
   told-by f = ap (λ (F : factor.Factor). whitened F (λ w. best (chosen k sites z w altitude) starts)) f
 
-  pub whitened-found : b ≡ true → (fits : List Fit) → fits ≡ map (levenbergMarquardt (chosen k sites z l altitude)) starts
+  told-found : b ≡ true → (fits : List Fit) → fits ≡ map (levenbergMarquardt (chosen k sites z l altitude)) starts
       → judged sites k fits (bestOf sites k fits) ≡ outcome
   unfolding best
-  whitened-found t fits f =
+  told-found t fits f =
       ap (λ (fs : List Fit). judged sites k fs (bestOf sites k fs)) f
       ∙ ap (λ (x : Bool). whitened (verdict x l) (λ w. best (chosen k sites z w altitude) starts)) (sym t) ∙ told-by e
 
-  pub whitened-refused : b ≡ false → fails Singular ≡ outcome
-  whitened-refused t = ap (λ (x : Bool). whitened (verdict x l) (λ w. best (chosen k sites z w altitude) starts)) (sym t) ∙ told-by e
+  told-refused : b ≡ false → fails Singular ≡ outcome
+  told-refused t = ap (λ (x : Bool). whitened (verdict x l) (λ w. best (chosen k sites z w altitude) starts)) (sym t) ∙ told-by e
+
+  -- the array is the factor's
+  array-of : (x : Bool) → l ≡ arrayOf (verdict x l)
+  array-of true = refl
+  array-of false = refl
+
+  -- the receptions as the factor whitens them
+  abbrev heard : Chosen
+  heard = chosen k sites z (arrayOf (whitener clock n noise index k zeros)) altitude
+
+  pub whitened-found : b ≡ true → (fits : List Fit) → fits ≡ map (levenbergMarquardt (chosen k sites z l altitude)) starts
+      → asBestAt (chosen k sites z l altitude) (judged sites k fits (bestOf sites k fits)) ≡ asBestAt heard outcome
+  whitened-found t fits f = ap₂ asBestAt (ap (λ (w : List Float). chosen k sites z w altitude) (array-of b ∙ ap arrayOf e)) (told-found t fits f)
+
+  pub whitened-refused : b ≡ false → (r : BestAt) → ((C : Chosen) → r ≡ asBestAt C (fails Singular)) → r ≡ asBestAt heard outcome
+  whitened-refused t r f = f heard ∙ ap (asBestAt heard) (told-refused t)

@@ -1,5 +1,7 @@
 // The best plausible fit of the chosen receptions from their starts: `plausible` and `best_fit` of
 // solve.rs.
+mod norm;
+
 ghost use mathlib.Core.Path.{_≡_};
 ghost use mathlib.Core.Bool.{not, _&&_, _||_};
 ghost use mathlib.Core.List.{map, _++_};
@@ -15,17 +17,20 @@ ghost use Rattle.sets.specs.Choice.{choose, indexOf};
 ghost use Rattle.problem.specs.Problem.{position};
 ghost use Rattle.problem.specs.Gathered.{pick};
 ghost use Rattle.limits.specs.Heights.{minHeightM, maxHeightM};
-ghost use Rattle.whitening.specs.Whitened.{chosen};
+ghost use Rattle.linalg.specs.Methods.{zeros};
+ghost use Rattle.whitening.specs.Covariance.{whitener};
+ghost use Rattle.whitening.specs.Whitened.{Chosen, chosen};
 ghost use Rattle.damped.specs.Damped.{unfitted, levenbergMarquardt};
 ghost use Rattle.damped.specs.Placed.{nowhere, placed};
 ghost use Rattle.best.specs.Plausible.{maxRangeM, range, nearTo, plausible};
 ghost use Rattle.best.specs.Best.{fails, distance, explainsAlike, fitAt, cheaper, any, weighed, bestOf, judged};
 ghost use Rattle.best.specs.Best.{pointsTo, bestFit};
-ghost use Rattle.best.specs.Held.{EachPlaced, fitsOf, asBestAt};
+ghost use Rattle.best.specs.Held.{EachPlaced, fitsOf, arrayOf, asBestAt};
 use damped::Fit;
 use damped::Placed;
 use geo::Geodetic;
 use linalg::Cholesky;
+use norm::norm;
 use problem::Altitude;
 
 // The farthest a solution may be from a receiver that heard it, metres: of solve.rs.
@@ -48,10 +53,11 @@ pub struct Best {
     pub fit: Fit,
 }
 
-// The best fit and its place: zeros where there is none.
+// The best fit, its place, and the rounding norm of its rows: zeros where there is none.
 pub struct BestAt {
     pub best: Best,
     pub place: Geodetic,
+    pub norm: f64,
 }
 
 fn both(a: bool, b: bool) -> bool
@@ -282,7 +288,7 @@ fn rivalled(fits: [Placed; 18], mask: u32, best: Fit, count: usize) -> bool
 }
 
 fn refused(why: Unfit) -> BestAt
-    ensures { λ r. ⌜ r ≡ asBestAt (fails why) ⌝ }
+    ensures { λ r. ⌜ ((C : Chosen) → r ≡ asBestAt C (fails why)) ⌝ }
 {
     let fit = no_fit();
     let best = Best {
@@ -291,13 +297,26 @@ fn refused(why: Unfit) -> BestAt
         fit,
     };
     let place = nowhere();
-    BestAt { best, place }
+    BestAt {
+        best,
+        place,
+        norm: 0.0,
+    }
 }
 
 // What the fits come to.
-fn judged(sites: &[f64; 96], k: usize, fits: [Placed; 18], count: usize) -> BestAt
+fn judged(
+    sites: &[f64; 96],
+    z: &[f64; 32],
+    k: usize,
+    l: &[f64; 1024],
+    altitude: Altitude,
+    fits: [Placed; 18],
+    count: usize,
+) -> BestAt
     requires { ⌜ (k ≤ 32) × (count ≤ 18) × EachPlaced fits count ⌝ }
-    ensures { λ r. ⌜ r ≡ asBestAt (judged (now (sites .entry)) k (take count (fitsOf fits))
+    ensures { λ r. ⌜ r ≡ asBestAt (chosen k (now (sites .entry)) (now (z .entry)) (now (l .entry)) altitude)
+        (judged (now (sites .entry)) k (take count (fitsOf fits))
         (bestOf (now (sites .entry)) k (take count (fitsOf fits)))) ⌝ }
 {
     let mask = weighed(sites, k, fits, count);
@@ -314,7 +333,9 @@ fn judged(sites: &[f64; 96], k: usize, fits: [Placed; 18], count: usize) -> Best
             fit,
         };
         let place = first.place;
-        return BestAt { best, place };
+        let params = fit.params;
+        let norm = norm(sites, z, k, l, altitude, params, place);
+        return BestAt { best, place, norm };
     }
     if converged(fits, count) {
         return refused(Unfit::OutOfRange);
@@ -340,7 +361,9 @@ pub fn best_fit(
 ) -> BestAt
     requires { ⌜ (n ≤ 32) × (k ≤ 32) × (count ≤ 18) ⌝ }
     requires { ⌜ ((a : ℕ) → a < k → pick (now index) a < n) ⌝ }
-    ensures { λ r. ⌜ r ≡ asBestAt (bestFit (now («clock_m2» .entry)) n (now («noise_m2» .entry)) (now (index .entry))
+    ensures { λ r. ⌜ r ≡ asBestAt (chosen k (now (sites .entry)) (now (z .entry))
+        (arrayOf (whitener (now («clock_m2» .entry)) n (now («noise_m2» .entry)) (now (index .entry)) k zeros))
+        altitude) (bestFit (now («clock_m2» .entry)) n (now («noise_m2» .entry)) (now (index .entry))
         (now (sites .entry)) (now (z .entry)) k altitude (pointsTo (now (at .entry)) count)) ⌝ }
 {
     let mut factor = Cholesky {
@@ -349,7 +372,7 @@ pub fn best_fit(
     };
     if whitening::whitener(clock_m2, n, noise_m2, index, factor.n, &mut factor.l) {
         let fitted = fits(sites, z, factor.n, &factor.l, altitude, at, count);
-        return judged(sites, k, fitted, count);
+        return judged(sites, z, factor.n, &factor.l, altitude, fitted, count);
     }
     refused(Unfit::Singular)
 }

@@ -9,24 +9,27 @@ use lib.IntN.{ℤ}
 use lib.Ieee.{Float}
 use borrow.Author.Tests.{lt-ltb, le-ltb}
 use Rattle.dense.specs.Entries.{nth}
+use Rattle.dense.specs.Factor.{Factor}
 use Rattle.sets.specs.Sets.{Subset, count}
 use Rattle.sets.specs.Mask.{has}
 use Rattle.sets.proofs.Masks.{count-within}
 use Rattle.geo.specs.Geo.{fromEcef}
 use Rattle.problem.specs.Problem.{position, minimum}
+use Rattle.whitening.specs.Whitened.{Chosen}
 use Rattle.damped.specs.declared.Fit.{Fit}
 use Rattle.best.specs.declared.Unfit.{Unfit}
 use Rattle.best.specs.declared.Best.{Best}
 use Rattle.best.specs.declared.BestAt.{BestAt}
 use Rattle.best.specs.Best.{Outcome, fails, gives, asBest}
-use Rattle.best.specs.Held.{asBestAt}
-use Rattle.best.specs.OfProblem.{Receptions, bestFitOver}
+use Rattle.best.specs.Held.{normAt, arrayOf, asBestAt}
+use Rattle.best.specs.OfProblem.{Receptions, whitenerOver, chosenOver, bestFitOver}
+use Rattle.best.proofs.Over.{answered-over}
 use Rattle.record.specs.declared.content.Fix.{Fix}
 use Rattle.rounds.specs.declared.answer.Refusal.the-variants.{TooFew}
 use Rattle.rounds.specs.declared.outliers.Turn.{Turn}
 use Rattle.rounds.specs.Setting.{ofUnfit, Setting, kept}
 use Rattle.rounds.specs.Rounds.{ends, decided, begun, round}
-use Rattle.rounds.specs.Solve.{normalised, settingOf, stepOf}
+use Rattle.rounds.specs.Solve.{normalised, settingOf, heldOver, NormOf, stepOf}
 use Rattle.rounds.proofs.Searches.{decided-same}
 
 -- the best fit, or why there is none, read back from what the code holds of it
@@ -38,9 +41,30 @@ told-as (fails e) = refl
 told-as (gives f) = refl
 
 -- beside a fit that is found stands its place
-pub best-place : (o : Outcome Unfit Fit) (b : BestAt) → b ≡ asBestAt o → b .best .found ≡ true → b .place ≡ fromEcef (position (b .best .fit .params))
-best-place (fails e) b h t = absurd (subst T (sym t ∙ ap (λ (x : BestAt). x .best .found) h) tt)
-best-place (gives f) b h t = ap (λ (x : BestAt). x .place) h ∙ ap (λ (x : BestAt). fromEcef (position (x .best .fit .params))) (sym h)
+pub best-place : (C : Chosen) (o : Outcome Unfit Fit) (b : BestAt) → b ≡ asBestAt C o → b .best .found ≡ true
+    → b .place ≡ fromEcef (position (b .best .fit .params))
+best-place C (fails e) b h t = absurd (subst T (sym t ∙ ap (λ (x : BestAt). x .best .found) h) tt)
+best-place C (gives f) b h t = ap (λ (x : BestAt). x .place) h ∙ ap (λ (x : BestAt). fromEcef (position (x .best .fit .params))) (sym h)
+
+-- and its rounding norm, by the factor that the round's whitener found
+pub best-norm : (R : Receptions) (S : Subset) (p : Option (List Float)) → R .n ≤ 32 → (b : BestAt) → b ≡ heldOver R S p → b .best .found ≡ true
+    → NormOf R S (b .best .fit) (b .norm)
+best-norm R S p n b h t = go (bestFitOver R S p) refl
+  where
+    over : Outcome Unfit Fit → BestAt
+    over o = asBestAt (chosenOver R S (arrayOf (whitenerOver R S))) o
+
+    go : (o : Outcome Unfit Fit) → bestFitOver R S p ≡ o → NormOf R S (b .best .fit) (b .norm)
+    go (fails e) q = absurd (subst T (sym t ∙ ap (λ (x : BestAt). x .best .found) (h ∙ ap over q)) tt)
+    go (gives f) q =
+        let w = answered-over R S p .found n f .0 q in
+        let same : b ≡ over (gives f) = h ∙ ap over q in (
+          w .0,
+          w .2 .whitens,
+          ap (λ (x : BestAt). x .norm) same
+              ∙ ap₂ (λ (F : Factor) (g : Fit). normAt (chosenOver R S (arrayOf F)) (g .params)) (w .2 .whitens)
+              (ap (λ (x : BestAt). x .best .fit) (sym same)),
+        )
 
 module _ (R : Receptions) (K : ℕ) (reference : ℤ) (N : R .n ≤ 32) (mask : ℕ) (M : mask < 2 ^ R .n) (p : Option (List Float)) (c : ℕ)
     (C : c ≡ count (has mask) 32) where

@@ -1,4 +1,5 @@
 -- `solve_problem` of solve.rs: what the rounds start from, by the problem, and the answer. Definitions only.
+use mathlib.Core.Path.{_≡_}
 use mathlib.Core.Bool.{Bool, true, false, cond}
 use mathlib.Core.List.{List}
 use mathlib.Core.Option.{Option, none, some}
@@ -20,7 +21,9 @@ use Rattle.whitening.specs.Covariance.{sigma}
 use Rattle.whitening.specs.Whitened.{Chosen, residual, whitened}
 use Rattle.limits.specs.Limits.{dof, roundingNorm, publishedChi2Limit}
 use Rattle.damped.specs.declared.Fit.{Fit}
+use Rattle.best.specs.declared.BestAt.{BestAt}
 use Rattle.best.specs.Best.{Outcome, fails}
+use Rattle.best.specs.Held.{normAt, arrayOf, asBestAt}
 use Rattle.best.specs.OfProblem.{Receptions, receptionsOf, subset, subsetSites, subsetZ, whitenerOver, chosenOver}
 use Rattle.best.specs.OfProblem.{bestFitOver}
 use Rattle.record.specs.declared.content.Fix.{Fix}
@@ -95,6 +98,15 @@ solveProblem P = solved (settingAt P)
 -- what is gathered of the receptions S
 abbrev pub gathered : List Float → List Float → ℕ → Subset → Gathered
 gathered site z n S = record { k = count S n; index = subset n S; sites = subsetSites site n S; z = subsetZ z n S }
+
+-- the best fit over S, beside its place and its rounding norm
+abbrev pub heldOver : Receptions → Subset → Option (List Float) → BestAt
+heldOver R S previous = asBestAt (chosenOver R S (arrayOf (whitenerOver R S))) (bestFitOver R S previous)
+
+-- the rounding norm of a fit of the receptions S, by the factor that whitens them
+abbrev pub NormOf : Receptions → Subset → Fit → Float → Type 0
+NormOf R S fit norm =
+    (l : List Float) × (whitenerOver R S ≡ found l) × (norm ≡ normAt (chosenOver R S l) (fit .params))
 
 -- the parameters that the round before found, if there was one
 abbrev pub before : State → Option (List Float)

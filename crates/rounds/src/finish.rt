@@ -18,7 +18,7 @@ use record::Fix;
 const MAX_SIGMA_M: f64 = 1_500.0;
 
 // What the steps after the rounds can refuse: document 01's 6 (the whitener), 5, 6 (the information), 9 and 3 are
-// tested in this order.
+// tested in this order, of which the whitener is not refused where the rounds settle.
 pub enum Unpublished {
     Inconsistent,
     Singular,

@@ -2,9 +2,8 @@
 ghost use mathlib.Core.Path.{_≡_};
 ghost use Prim.Native.Nat.{_≤_};
 ghost use Rattle.sets.specs.Mask.{has};
-ghost use Rattle.best.specs.Held.{asBestAt};
-ghost use Rattle.best.specs.OfProblem.{receptions, bestFitOver};
-ghost use Rattle.rounds.specs.Solve.{gathered, before};
+ghost use Rattle.best.specs.OfProblem.{receptions};
+ghost use Rattle.rounds.specs.Solve.{gathered, heldOver, before};
 use best::BestAt;
 use problem::Altitude;
 
@@ -42,7 +41,7 @@ pub fn subset(site: &[f64; 96], z: &[f64; 32], n: usize, included: u32) -> Gathe
     }
 }
 
-// Their best fit and its place, where the parameters of the round before lead the starts.
+// Their best fit, its place and its rounding norm, where the parameters of the round before lead the starts.
 pub fn fit_included(
     site: &[f64; 96],
     z: &[f64; 32],
@@ -53,9 +52,9 @@ pub fn fit_included(
     state: State,
 ) -> BestAt
     requires { ⌜ n ≤ 32 ⌝ }
-    ensures { λ r. ⌜ r ≡ asBestAt (bestFitOver
+    ensures { λ r. ⌜ r ≡ heldOver
         (receptions (now (site .entry)) (now (z .entry)) (now (noise .entry)) (now (clock .entry)) n altitude)
-        (has (state .included)) (before state)) ⌝ }
+        (has (state .included)) (before state) ⌝ }
 {
     let included = state.included;
     let had = state.had;

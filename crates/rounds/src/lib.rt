@@ -80,6 +80,7 @@ fn outlier_rounds(
         let turn = step.turn;
         let fit = step.fit;
         let place = step.place;
+        let norm = step.norm;
         let used = state.included;
         match turn {
             Turn::Ends(why) => {
@@ -91,18 +92,7 @@ fn outlier_rounds(
                 continue;
             }
             Turn::Settles => {
-                let end = settled(
-                    site,
-                    z,
-                    noise,
-                    clock,
-                    n,
-                    altitude,
-                    reference,
-                    used,
-                    fit,
-                    place,
-                );
+                let end = settled(altitude, reference, used, fit, place, norm);
                 return of_finished(end);
             }
         }

@@ -2,6 +2,7 @@
 ghost use mathlib.Core.Path.{_≡_};
 ghost use Prim.Native.Nat.{ℕ, _≤_, _<_, _^_};
 ghost use lib.IntN.{ℤ};
+ghost use Rattle.binary64.specs.Steps.{nought};
 ghost use Rattle.sets.specs.Mask.{has};
 ghost use Rattle.geo.specs.Geo.{fromEcef};
 ghost use Rattle.problem.specs.Problem.{position};
@@ -10,7 +11,7 @@ ghost use Rattle.damped.specs.Placed.{nowhere};
 ghost use Rattle.best.specs.OfProblem.{receptions};
 ghost use Rattle.rounds.specs.Rounds as rounds;
 ghost use Rattle.rounds.specs.declared.outliers.Turn.the-variants.{Ends, Changes, Settles};
-ghost use Rattle.rounds.specs.Solve.{before, settingOf, stepOf};
+ghost use Rattle.rounds.specs.Solve.{NormOf, before, settingOf, stepOf};
 use crate::Refusal;
 use crate::answer::of_unfit;
 use crate::fitting::State;
@@ -22,16 +23,17 @@ use damped::Fit;
 use geo::Geodetic;
 use problem::Altitude;
 
-// What a round comes to, its best fit and the fit's place: zeros where it has none.
+// What a round comes to, its best fit, and the fit's place and rounding norm: zeros where it has none.
 pub struct Step {
     pub turn: Turn,
     pub fit: Fit,
     pub place: Geodetic,
+    pub norm: f64,
 }
 
 // A round that a refusal ends before there is a best fit.
 fn ended(why: Refusal) -> Step
-    ensures { λ r. ⌜ r ≡ record { turn = Ends why; fit = unfitted; place = nowhere } ⌝ }
+    ensures { λ r. ⌜ r ≡ record { turn = Ends why; fit = unfitted; place = nowhere; norm = nought } ⌝ }
 {
     let params = [0.0; 4];
     let information = [0.0; 16];
@@ -48,6 +50,7 @@ fn ended(why: Refusal) -> Step
             lon_deg: 0.0,
             height_m: 0.0,
         },
+        norm: 0.0,
     }
 }
 
@@ -67,7 +70,9 @@ pub fn round(
         ≡ rounds.round (settingOf (receptions (now (site .entry)) (now (z .entry)) (now (noise .entry))
         (now (clock .entry)) n altitude) (has kept) reference) (has (state .included)) (before state))
         × ((m : ℕ) → r .turn ≡ Changes m → m < 2 ^ n) ⌝ }
-    ensures { λ r. ⌜ (r .turn ≡ Settles → r .place ≡ fromEcef (position (r .fit .params))) ⌝ }
+    ensures { λ r. ⌜ (r .turn ≡ Settles → (r .place ≡ fromEcef (position (r .fit .params)))
+        × NormOf (receptions (now (site .entry)) (now (z .entry)) (now (noise .entry)) (now (clock .entry)) n altitude)
+        (has (state .included)) (r .fit) (r .norm)) ⌝ }
 {
     let included = state.included;
     let count = sets::count(included);
@@ -82,7 +87,13 @@ pub fn round(
         let left = residuals(site, z, noise, clock, n, params);
         let turn = decided(kept, included, &left, n);
         let place = at.place;
-        return Step { turn, fit, place };
+        let norm = at.norm;
+        return Step {
+            turn,
+            fit,
+            place,
+            norm,
+        };
     }
     let why = best.why;
     ended(of_unfit(why))

@@ -1,7 +1,7 @@
 -- `rounds::outlier_rounds` meets its contract. The invariant: from the state, the rounds that are left give the answer (`Left`), whichever are kept.
 -- Assumes nothing.
 use borrow.Author.Needs.{needs}
-use mathlib.Core.Path.{_≡_, sym, ap, subst, _∙_}
+use mathlib.Core.Path.{_≡_, refl, sym, ap, subst, _∙_}
 use Prim.Native.Nat.{ℕ, _+_, _*_, _-_, _^_, _≤_, _<_}
 use native.Mathlib.Omega.{arith}
 use lib.IntN.{ℤ}
@@ -101,11 +101,7 @@ enum-told : tie.Need-enum-told Inv-loop μ-loop
 enum-told c = search needs
 
 settled-requires : tie.Need-settled-requires Inv-loop μ-loop
-settled-requires c κs = (
-  c .before .before .before .before .before .before .before .before .before .pre .0,
-  c .before .before .before .before .before .before .loop .inv .1,
-  c .before .before .before .before .round .ensures .1 (c .enum-told .given .1),
-)
+settled-requires c κs = c .before .before .before .before .round .ensures .1 (c .enum-told .given .1) .0
 
 of-finished-requires : tie.Need-of-finished-requires Inv-loop μ-loop
 of-finished-requires c κs = search needs
@@ -116,7 +112,8 @@ returns-2 c =
     let at = c .before .before .before .before .before .before .before .before .loop in
     let made = c .before .before .before .before .before .before .round in
     c .of-finished .ensures (later (heard s) (s .args .reference) (has (at .state .included)) (made .result .fit))
-    (rw (toZ-ofZ w64 (s .args .reference) (s .fits .reference)) at (c .before .settled .ensures))
+    (rw (toZ-ofZ w64 (s .args .reference) (s .fits .reference)) at (c .before .settled .ensures (heard s) (s .pre .0) (at .inv .1) refl
+    (made .ensures .1 (c .before .before .enum-told .given .1) .1)))
     ∙ ap asAnswer (left-settles (heard s) (s .args .kept) (s .args .reference) (s .pre .0) (at .k)
     (2 * c .before .before .before .before .before .before .before .before .before .before .count .result + 2) (at .state) (made .result .turn)
     (made .result .fit) (made .ensures .0 .0 (s .args .reference)) (c .before .before .before .before .before .before .before .loop-test .taken)

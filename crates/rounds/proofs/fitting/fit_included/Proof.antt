@@ -1,12 +1,11 @@
--- `rounds::fitting::fit_included` meets its contract. What is gathered, and the starts in their array, are those of the definition (`fit-is`).
+-- `rounds::fitting::fit_included` meets its contract. What is gathered, and the starts in their array, are those of the definition (`held-is`).
 -- Assumes nothing.
 use borrow.Author.Needs.{needs}
-use mathlib.Core.Path.{ap, _∙_}
+use mathlib.Core.Path.{_∙_}
 use Rattle.sets.specs.Mask.{has}
-use Rattle.best.specs.Held.{asBestAt}
 use Rattle.best.specs.OfProblem.{Receptions, receptions}
 use Rattle.rounds.proofs.Gathering.{subset-fits}
-use Rattle.rounds.proofs.Points.{starts-few, fit-is}
+use Rattle.rounds.proofs.Points.{starts-few, held-is}
 use Rattle.rounds.proofs.fitting.fit_included.Statement.{statement}
 use Rattle.rounds.proofs.fitting.fit_included.Tie as tie
 
@@ -41,9 +40,9 @@ returns : tie.Need-returns
 returns c =
     let s = c .before .before .before .before .before .before .before .before .before .before .before .before .before .before in
     let g = c .before .before .before .before .before .before .before .before .before .before .before .before .subset in
-    c .best-fit .ensures ∙ ap asBestAt (fit-is (heard s) (has (s .args .state .included)) (s .args .state .had) (s .args .state .previous) (g .result)
+    c .best-fit .ensures ∙ held-is (heard s) (has (s .args .state .included)) (s .args .state .had) (s .args .state .previous) (g .result)
     (g .ensures) (c .before .before .before .before .before .before .starts .result)
-    (c .before .before .before .before .before .before .starts .ensures))
+    (c .before .before .before .before .before .before .starts .ensures)
 
 pub fit-included-spec : {M : Type 1} → statement M
 fit-included-spec =

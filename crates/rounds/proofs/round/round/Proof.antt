@@ -1,4 +1,5 @@
--- `rounds::round::round` meets its contract. Each test picks the definition's case, and the place is the best fit's (Turns.antt). Assumes nothing.
+-- `rounds::round::round` meets its contract. Each test picks the definition's case, and the place and the norm are the best fit's (Turns.antt).
+-- Assumes nothing.
 use borrow.Author.Needs.{needs}
 use mathlib.Core.Path.{_≡_, sym, ap, _∙_}
 use mathlib.Core.List.{List}
@@ -11,13 +12,14 @@ use Rattle.dense.specs.Entries.{nth}
 use Rattle.sets.specs.Mask.{has}
 use Rattle.whitening.proofs.Costs.{fill-at}
 use Rattle.best.specs.declared.BestAt.{BestAt}
-use Rattle.best.specs.OfProblem.{Receptions, receptions, bestFitOver}
+use Rattle.best.specs.Held.{arrayOf}
+use Rattle.best.specs.OfProblem.{Receptions, receptions, whitenerOver, chosenOver, bestFitOver}
 use Rattle.rounds.specs.declared.answer.Refusal.{Refusal}
 use Rattle.rounds.specs.declared.outliers.Turn.the-variants.{Ends, Changes, Settles}
 use Rattle.rounds.specs.declared.round.Step.{Step}
 use Rattle.rounds.specs.Rounds.{ends}
 use Rattle.rounds.specs.Solve.{before, stepOf}
-use Rattle.rounds.proofs.Turns.{best-place, round-few, round-unfit, round-fitted}
+use Rattle.rounds.proofs.Turns.{best-place, best-norm, round-few, round-unfit, round-fitted}
 use Rattle.rounds.proofs.round.round.Statement.{statement}
 use Rattle.rounds.proofs.round.round.Tie as tie
 
@@ -68,7 +70,8 @@ returns-2 c =
     let s = c .before .before .before .before .before .before .before .before .before .before .before .before in
     let n = c .before .before .before .before .before .before .before .before .before .before .before .count in
     let at = c .before .before .before .before .before .before .before .before .fit-included in
-    let left = c .before .before .before .residuals in (
+    let left = c .before .before .before .residuals in
+    let S = has (s .args .state .included) in (
       (
         λ reference. round-fitted (heard s) (s .args .kept) reference (s .pre .0) (s .args .state .included) (s .pre .1) (before (s .args .state))
             (n .result) (n .ensures) (rw (c .before .before .before .before .before .before .before .before .before .before .minimum .ensures) at
@@ -79,8 +82,12 @@ returns-2 c =
             (c .before .decided .ensures .0 (at .result .best .fit)),
         c .before .decided .ensures .1,
       ),
-      λ q. best-place (bestFitOver (heard s) (has (s .args .state .included)) (before (s .args .state))) (at .result) (at .ensures)
-          (c .before .before .before .before .before .before .if2 .taken),
+      λ q. (
+        best-place (chosenOver (heard s) S (arrayOf (whitenerOver (heard s) S))) (bestFitOver (heard s) S (before (s .args .state))) (at .result)
+            (at .ensures) (c .before .before .before .before .before .before .if2 .taken),
+        best-norm (heard s) S (before (s .args .state)) (s .pre .0) (at .result) (at .ensures)
+            (c .before .before .before .before .before .before .if2 .taken),
+      ),
     )
 
 of-unfit-requires : tie.Need-of-unfit-requires
