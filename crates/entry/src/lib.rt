@@ -129,7 +129,20 @@ fn reply_to(
         Check::Passed => {
             let p = inputs::problem_of(f, n, g, clock, altitude, reference);
             let shown = p.shown;
-            answered(n as u32, shown, rounds::solve_problem(p))
+            let height = p.altitude;
+            let reference_ps = p.reference_ps;
+            let answer = rounds::solve_lent(
+                &p.time,
+                &p.site_mm,
+                &p.site,
+                &p.z,
+                &p.noise_m2,
+                &p.clock_m2,
+                p.n,
+                height,
+                reference_ps,
+            );
+            answered(n as u32, shown, answer)
         }
     }
 }

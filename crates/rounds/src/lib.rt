@@ -20,7 +20,7 @@ ghost use Rattle.sets.specs.Mask.{has};
 ghost use Rattle.screen.specs.Screen as screen;
 ghost use Rattle.best.specs.OfProblem.{receptions};
 ghost use Rattle.rounds.specs.Rounds.{solved};
-ghost use Rattle.rounds.specs.Solve.{settingOf, solveProblem, asAnswer};
+ghost use Rattle.rounds.specs.Solve.{settingOf, keptAt, solveProblem, asAnswer};
 use answer::no_fixed_point;
 use answer::of_finished;
 use answer::refused;
@@ -100,6 +100,27 @@ fn outlier_rounds(
     no_fixed_point()
 }
 
+// Solves one transmission's problem, whose arrays are lent.
+pub fn solve_lent<'a>(
+    time: &'a [i64; 32],
+    site_mm: &'a [i64; 96],
+    site: &'a [f64; 96],
+    z: &'a [f64; 32],
+    noise: &'a [f64; 32],
+    clock: &'a [f64; 1024],
+    n: usize,
+    altitude: Altitude,
+    reference_ps: i64,
+) -> Answer
+    requires { ⌜ n ≤ 32 ⌝ }
+    ensures { λ r. ⌜ r ≡ asAnswer (solved
+        (settingOf (receptions (now (site .entry)) (now (z .entry)) (now (noise .entry)) (now (clock .entry)) n
+        altitude) (keptAt (now (time .entry)) (now («site_mm» .entry)) n) «reference_ps»)) ⌝ }
+{
+    let kept = screen::screen(time, site_mm, n);
+    outlier_rounds(site, z, noise, clock, n, altitude, reference_ps, kept)
+}
+
 // Solves one transmission's problem.
 pub fn solve_problem(p: Problem) -> Answer
     requires { ⌜ p .n ≤ 32 ⌝ }
@@ -108,12 +129,15 @@ pub fn solve_problem(p: Problem) -> Answer
     let n = p.n;
     let altitude = p.altitude;
     let reference_ps = p.reference_ps;
-    let time = p.time;
-    let site_mm = p.site_mm;
-    let site = p.site;
-    let z = p.z;
-    let noise = p.noise_m2;
-    let clock = p.clock_m2;
-    let kept = screen::screen(&time, &site_mm, n);
-    outlier_rounds(&site, &z, &noise, &clock, n, altitude, reference_ps, kept)
+    solve_lent(
+        &p.time,
+        &p.site_mm,
+        &p.site,
+        &p.z,
+        &p.noise_m2,
+        &p.clock_m2,
+        n,
+        altitude,
+        reference_ps,
+    )
 }

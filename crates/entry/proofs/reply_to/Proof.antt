@@ -1,6 +1,9 @@
 -- `entry::reply_to` meets its contract: what the checks refuse is turned away, and what passes is a problem (`Replies`). Assumes nothing.
 use borrow.Author.Needs.{needs}
-use mathlib.Core.Path.{_≡_, sym, ap, _∙_}
+use mathlib.Core.Path.{_≡_, refl, sym, ap, _∙_}
+use mir.Syntax.{w64}
+use mir.Val.{toZ, ofZ}
+use mir.ValLaws.{toZ-ofZ}
 use native.Mathlib.Omega.{arith}
 use Prim.Native.Nat.{ℕ}
 use Rattle.receptions.specs.declared.Reception.{Reception}
@@ -8,7 +11,8 @@ use Rattle.inputs.specs.declared.Given.{Given}
 use Rattle.inputs.specs.declared.Check.the-variants.{Passed}
 use Rattle.inputs.specs.Inputs.{Inputs, inputsOf, checkInputs}
 use Rattle.inputs.proofs.Order.{few}
-use Rattle.rounds.specs.Solve.{solveProblem}
+use Rattle.rounds.specs.Solve.{solveProblem, asAnswer}
+use Rattle.rounds.proofs.Runs.{of-problem}
 use Rattle.entry.specs.Reply.{reply}
 use Rattle.entry.proofs.Replies.{is-passed, many-away, came-whole, torn-or-whole, refused-reply, problem-reply}
 use Rattle.entry.proofs.reply_to.Statement.{statement}
@@ -44,21 +48,23 @@ problem-of-requires c κs =
     let e : checkInputs I ≡ Passed = sym (check .ensures (s .pre .0) (s .pre .1)) ∙ is-passed (check .result) (c .before .match .keys2) in
     (s .pre .0, (s .pre .1 (few I e), came-whole I e))
 
+solve-lent-requires : tie.Need-solve-lent-requires
+solve-lent-requires c κs =
+    let made = c .before .before .before .before .before .before .before .before in
+    let s = made .before .before .before .before .before .before .before .before in
+    let check = made .before .before .before .check-inputs in
+    let I = lent s (s .pre .0) (made .before .before .before .before .given .result) in
+    let small = few I (sym (check .ensures (s .pre .0) (s .pre .1)) ∙ is-passed (check .result) (made .before .before .match .keys2)) in
+    made .problem-of .ensures (s .pre .0) (s .pre .1 small) .inDomain .few
+
 cast-answered : tie.Need-cast-answered
 cast-answered c =
-    let s = c .before .before .before .before .before .before .before .before in
-    let check = c .before .before .before .check-inputs in
-    let I = lent s (s .pre .0) (c .before .before .before .before .given .result) in
-    let h = few I (sym (check .ensures (s .pre .0) (s .pre .1)) ∙ is-passed (check .result) (c .before .before .match .keys2)) in
+    let made = c .before .before .before .before .before .before .before .before .before in
+    let s = made .before .before .before .before .before .before .before .before in
+    let check = made .before .before .before .check-inputs in
+    let I = lent s (s .pre .0) (made .before .before .before .before .given .result) in
+    let h = few I (sym (check .ensures (s .pre .0) (s .pre .1)) ∙ is-passed (check .result) (made .before .before .match .keys2)) in
     record { fits = omega arith }
-
-solve-problem-requires : tie.Need-solve-problem-requires
-solve-problem-requires c κs =
-    let s = c .before .before .before .before .before .before .before .before in
-    let check = c .before .before .before .check-inputs in
-    let I = lent s (s .pre .0) (c .before .before .before .before .given .result) in
-    let small = few I (sym (check .ensures (s .pre .0) (s .pre .1)) ∙ is-passed (check .result) (c .before .before .match .keys2)) in
-    c .problem-of .ensures (s .pre .0) (s .pre .1 small) .inDomain .few
 
 answered-requires : tie.Need-answered-requires
 answered-requires c κs = search needs
@@ -72,17 +78,26 @@ returns c = λ at held.
     (c .before .before .found .given .1) (c .turned-away .ensures)
     ∙ ap (λ (g : Given). reply (lent s at g)) (given .given .ensures)
 
+-- what is lent is the problem's
+answer-is : (c : tie.After-solve-lent) → c .solve-lent .result ≡ asAnswer (solveProblem (c .before .before .before .before .before .before .before .before .before .problem-of .result))
+answer-is c =
+    let p = c .before .before .before .before .before .before .before .before .before .problem-of .result in
+    c .solve-lent .ensures ∙ ap asAnswer (of-problem p _ (toZ w64 (ofZ w64 (p .«reference_ps»))) refl (toZ-ofZ w64 (p .«reference_ps») (record {
+      sfits = c .before .before .before .before .before .before .before .before .struct-told .given .1 .1 .1 .1 .1 .1 .1 .1 .0 .1;
+    })))
+
 returns-2 : tie.Need-returns-2
 returns-2 c = λ at held.
-    let s = c .before .before .before .before .before .before .before .before .before .before in
-    let given = c .before .before .before .before .before .before in
-    let check = c .before .before .before .before .before .check-inputs in
-    let p = c .before .before .problem-of in
+    let made = c .before .before .before .before .before .before .before .before .before .before in
+    let s = made .before .before .before .before .before .before .before .before in
+    let given = made .before .before .before .before in
+    let check = made .before .before .before .check-inputs in
+    let p = made .problem-of in
     let I = lent s at (given .given .result) in
-    let passes = is-passed (check .result) (c .before .before .before .before .match .keys2) in
+    let passes = is-passed (check .result) (made .before .before .match .keys2) in
     let small = few I (sym (check .ensures at held) ∙ passes) in
     problem-reply I (check .result) (check .ensures at held) (c .answered .result) (p .result) passes
-    (p .ensures at (held small) .problem ∙ torn-or-whole I) (c .answered .ensures (solveProblem (p .result)) (c .before .solve-problem .ensures))
+    (p .ensures at (held small) .problem ∙ torn-or-whole I) (c .answered .ensures (solveProblem (p .result)) (answer-is (c .before)))
     ∙ ap (λ (g : Given). reply (lent s at g)) (given .given .ensures)
 
 pub reply-to-spec : {M : Type 1} → statement M
@@ -95,8 +110,8 @@ reply-to-spec =
     turned-away-requires
     enum-told
     problem-of-requires
+    solve-lent-requires
     cast-answered
-    solve-problem-requires
     answered-requires
     returns
     returns-2)
