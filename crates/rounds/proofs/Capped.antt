@@ -8,9 +8,9 @@ use native.Mathlib.Omega.{arith}
 use Rattle.problem.specs.declared.Problem.{Problem}
 use Rattle.rounds.specs.Setting.{Answer, noFixedPoint, Setting, kept, survivors}
 use Rattle.rounds.specs.Rounds.{roundsTo, solved}
-use Rattle.rounds.specs.Demand.{rounds}
+use Rattle.rounds.specs.Demand.{EachChanged, rounds}
 use Rattle.rounds.specs.Solve.{solveProblem}
-use Rattle.rounds.specs.Unmoved.{capped, EachChanged, CapReached, SameAtLarger, CapsOfSolve}
+use Rattle.rounds.specs.Unmoved.{capped, CapReached, SameAtLarger, CapsOfSolve}
 use Rattle.rounds.proofs.Claim.{closed-never}
 use Rattle.rounds.proofs.Chains.{all-kept, chain-within, after-chain, after-settled, after-end, Run, ended, settled, never, run}
 

@@ -24,7 +24,7 @@ module _ {Q F X : Type 0} (P : Setting Q F X) where
   change-within {S} (return i h a l g) W j t = elim (g j .0 t)
       [ inl u ↦ W j u | inr e ↦ subst (λ (x : ℕ). T (kept P x)) (sym e) (out-kept P S i (l .0 .candidate)) ]
 
-  pub chain-within : {E S : Subset} {p q : Option Q} {k : ℕ} → Chain P E q k S p → Within P S → Within P E
+  pub chain-within : {E S : Subset} {p q : Option Q} {k : ℕ} → Chain P k S p E q → Within P S → Within P E
   chain-within start W = W
   chain-within (then c s) W = chain-within s (change-within c W)
 
@@ -34,7 +34,7 @@ module _ {Q F X : Type 0} (P : Setting Q F X) where
   unfolding roundsTo
   after-round k S p x W h = ap (after P (λ R q. roundsTo P k R q) S) (says-round P S p W x h)
 
-  pub after-chain : {E S : Subset} {p q : Option Q} {k : ℕ} → Chain P E q k S p → Within P S → (m d : ℕ) → m ≡ k + d → roundsTo P m S p
+  pub after-chain : {E S : Subset} {p q : Option Q} {k : ℕ} → Chain P k S p E q → Within P S → (m d : ℕ) → m ≡ k + d → roundsTo P m S p
       ≡ roundsTo P d E q
   after-chain {E} {q = q} start W m d e = ap (λ (x : ℕ). roundsTo P x E q) (omega (arith, e))
   after-chain (then c s) W zero d e = absurd (omega (arith, e))
@@ -49,9 +49,9 @@ module _ {Q F X : Type 0} (P : Setting Q F X) where
 
   -- ---- what m rounds from S come to, by their answer a
   pub data Run (m : ℕ) (S : Subset) (p : Option Q) (a : Answer X) : Type 0 where
-    ended : {E : Subset} {q : Option Q} (k : ℕ) (e : Refusal) → k < m → Chain P E q k S p → Ends P E q e → a ≡ refused e → Run m S p a
-    settled : {E : Subset} {q : Option Q} (k : ℕ) (f : F) → k < m → Chain P E q k S p → Settled P E q f → a ≡ closed (P .later E f) → Run m S p a
-    never : {E : Subset} {q : Option Q} → Chain P E q m S p → a ≡ noFixedPoint → Run m S p a
+    ended : {E : Subset} {q : Option Q} (k : ℕ) (e : Refusal) → k < m → Chain P k S p E q → Ends P E q e → a ≡ refused e → Run m S p a
+    settled : {E : Subset} {q : Option Q} (k : ℕ) (f : F) → k < m → Chain P k S p E q → Settled P E q f → a ≡ closed (P .later E f) → Run m S p a
+    never : {E : Subset} {q : Option Q} → Chain P m S p E q → a ≡ noFixedPoint → Run m S p a
 
   one-more : {S S′ : Subset} {p : Option Q} {f : F} (m : ℕ) (a : Answer X) → Change P S p S′ f → Run m S′ (some (P .params f)) a → Run (suc m) S p a
   one-more m a c (ended k e l s x q) = ended (suc k) e (omega arith) (then c s) x q

@@ -1,5 +1,5 @@
 -- The claim of demand 3 holds of the computation's answer, and of no other. Assumes nothing.
-use mathlib.Core.Path.{_≡_, refl, sym, ap, _∙_}
+use mathlib.Core.Path.{_≡_, refl, sym, ap, subst, _∙_}
 use mathlib.Core.Option.{Option, none}
 use Prim.Native.Nat.{ℕ, suc, _+_, _*_, _-_}
 use native.Mathlib.Omega.{arith}
@@ -9,15 +9,12 @@ use Rattle.rounds.specs.declared.answer.Refusal.{Refusal}
 use Rattle.rounds.specs.declared.finish.Unpublished.{Unpublished}
 use Rattle.rounds.specs.Setting.{ofUnpublished, Answer, fix, refused, noFixedPoint, Setting, kept, survivors}
 use Rattle.rounds.specs.Rounds.{closed, roundsTo, solved}
-use Rattle.rounds.specs.Demand.{Settled, Ends, Chain, InTime, Remaining, Fixed, Refused, early, late, Claim, Exactly}
+use Rattle.rounds.specs.Demand.{Settled, Ends, InTime, EachChanged, Remaining, Fixed, Refused, early, late, Claim, Exactly}
 use Rattle.rounds.proofs.Chains.{all-kept, chain-within, after-chain, after-settled, after-end, Run, ended, settled, never, run}
 
 module _ {Q F X : Type 0} (P : Setting Q F X) where
   abbrev cap : ℕ
   cap = 2 * survivors P + 2
-
-  abbrev Never : Type 0
-  Never = (E : Subset) × (q : Option Q) × Chain P E q cap (kept P) none
 
   -- ---- the three kinds of answer are apart
 
@@ -53,13 +50,14 @@ module _ {Q F X : Type 0} (P : Setting Q F X) (L : Remaining F X) (exact : Exact
     refused-of : (e : Refusal) → a ≡ refused e → Run P (cap P) (kept P) none a → Refused P L e
     refused-of e h (ended {E = E} {q = p} k d l s w q) =
         let c : d ≡ e = cc in
-        early E p (record { changes = k; most = omega arith; chain = s }) (rw c at w)
+        early E p e (record { changes = k; most = omega arith; chain = s }) (rw c at w)
     refused-of e h (never s q) = absurd (let z : _≡_ {A = ℕ} 0 1 = cc in omega arith)
     refused-of e h (settled {E = E} {q = p} k f l s w q) =
         let c = closed-refused P e (P .later E f) (sym q ∙ h) in
-        late E p f (c .0) (record { changes = k; most = omega arith; chain = s }) w (exact .withholds E f (c .0) .0 (c .1)) (c .2)
+        subst (Refused P L) (sym (c .2))
+        (late E p f (c .0) (record { changes = k; most = omega arith; chain = s }) w (exact .withholds E f (c .0) .0 (c .1)))
 
-    unfixed-of : a ≡ noFixedPoint → Run P (cap P) (kept P) none a → Never P
+    unfixed-of : a ≡ noFixedPoint → Run P (cap P) (kept P) none a → EachChanged P (cap P)
     unfixed-of h (ended k e l s w q) = absurd (let z : _≡_ {A = ℕ} 0 1 = cc in omega arith)
     unfixed-of h (never {E = E} {q = p} s q) = (E, p, s)
     unfixed-of h (settled {E = E} k f l s w q) = absurd (closed-never P (P .later E f) (sym q ∙ h))
@@ -79,10 +77,10 @@ module _ {Q F X : Type 0} (P : Setting Q F X) (L : Remaining F X) (exact : Exact
   of-fixed x h = settles (h .used) (h .before) (h .best) (h .inTime) (h .settled) ∙ ap (closed) (exact .shows (h .used) (h .best) x .1 (h .shown))
 
   of-refused : (e : Refusal) → Refused P L e → solved P ≡ refused e
-  of-refused e (early S p t w) = ends S p e t w
-  of-refused e (late S p f u t w r i) = settles S p f t w ∙ ap (closed) (exact .withholds S f u .1 r) ∙ ap refused (sym i)
+  of-refused e (early S p d t w) = ends S p d t w
+  of-refused e (late S p f u t w r) = settles S p f t w ∙ ap (closed) (exact .withholds S f u .1 r)
 
-  of-unfixed : Never P → solved P ≡ noFixedPoint
+  of-unfixed : EachChanged P (cap P) → solved P ≡ noFixedPoint
   unfolding solved roundsTo
   of-unfixed h = after-chain P (h .2) (all-kept P) (cap P) 0 (omega arith)
 

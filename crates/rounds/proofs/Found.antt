@@ -147,11 +147,12 @@ module _ (P : Problem) (N : P .n ≤ 32) (x : Fix) (h : Fixed (rounds P) (remain
     screened = λ i j s t. kept-pass (P .time) (P .«site_mm») (P .n) i j s t;
     within = λ j t. subst (λ (r : Float). T (le r five)) (sym (residual-is j)) (h .settled .noneAbove j (below-n j (in-used j t)) (in-used j t));
     beyond = λ j k t. subst (λ (r : Float). T (lt five r)) (sym (residual-is j))
-        (h .settled .unused j (kept-n j k) (and-both (kept (rounds P) j) (not (S j)) k (subst (λ (A : Subset). T (not (A j))) uses t)));
+        (h .settled .noneBack j (kept-n j k) (and-both (kept (rounds P) j) (not (S j)) k (subst (λ (A : Subset). T (not (A j))) uses t)));
     near = λ j t. subst (λ (p : List Float). T (le (range (P .site) p j) maxRangeM)) (sym ecef-is)
         (is-best .near j (below-n j (in-used j t)) (in-used j t));
     placed = shown (λ y. y .position) ∙ ap fromEcef (sym ecef-is);
-    height = subst (λ (q : Float). T (le minHeightM q) × T (le q maxHeightM)) (sym height-is) (flies .above, flies .below);
+    above = subst (λ (q : Float). T (le minHeightM q)) (sym height-is) (flies .above);
+    below = subst (λ (q : Float). T (le q maxHeightM)) (sym height-is) (flies .below);
     freedom = shown (λ y. y .dof) ∙ ap (dofOf R) (sym uses);
     factor = l;
     whitened = ap (whitenerOver R) uses ∙ is-best .whitens;

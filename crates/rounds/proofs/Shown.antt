@@ -1,6 +1,6 @@
 -- What every answer shows: a mask within n and the degrees of freedom that it stands for, and too few that are too few. Assumes
 -- nothing.
-use mathlib.Core.Path.{_≡_, sym, ap, subst, _∙_}
+use mathlib.Core.Path.{_≡_, refl, sym, ap, subst, _∙_}
 use mathlib.Core.Bool.{cond}
 use Prim.Native.Nat.{ℕ, _+_, _^_, _≤_, _<_}
 use native.Mathlib.Omega.{arith}
@@ -15,6 +15,7 @@ use Rattle.limits.specs.Limits.{dof}
 use Rattle.best.specs.declared.Unfit.{Unfit}
 use Rattle.best.specs.declared.Unfit.the-variants as unfit
 use Rattle.record.specs.declared.content.Fix.{Fix}
+use Rattle.rounds.specs.declared.answer.Refusal.{Refusal}
 use Rattle.rounds.specs.declared.answer.Refusal.the-variants.{TooFew}
 use Rattle.rounds.specs.declared.finish.Unpublished.{Unpublished}
 use Rattle.rounds.specs.declared.finish.Unpublished.the-variants as unpublished
@@ -67,10 +68,10 @@ module _ (P : Problem) (N : P .n ≤ 32) where
         ∙ ap (λ (c : ℕ). c + cond (hasAltitude (P .altitude)) 1 0) (sym (count-within (P .n) (x .mask) fix-mask N))
 
   pub too-few : (c : ℕ) → solveProblem P ≡ refused (TooFew c) → c ≤ 3
-  too-few c e = go (demand-met P N .claim .refusals (TooFew c) .0 e)
+  too-few c e = go (TooFew c) (demand-met P N .claim .refusals (TooFew c) .0 e) refl
     where
-      go : Refused (rounds P) (remaining P) (TooFew c) → c ≤ 3
-      go (early S p t (few h q)) = let z : c ≡ count S (P .n) = same-count c (count S (P .n)) q in omega (arith, minimum-le (P .altitude))
-      go (early S p t (demand.unfit u m b q)) = absurd (no-unfit c u q)
-      go (early S p t (unnumbered f j l m b k n q)) = absurd (let z : _≡_ {A = ℕ} 0 1 = cc in omega arith)
-      go (late S p f u t s l q) = absurd (no-unpublished c u q)
+      go : (r : Refusal) → Refused (rounds P) (remaining P) r → TooFew c ≡ r → c ≤ 3
+      go r (early S p d t (few h)) q = let z : c ≡ count S (P .n) = same-count c (count S (P .n)) q in omega (arith, minimum-le (P .altitude))
+      go r (early S p d t (demand.unfit u m b)) q = absurd (no-unfit c u q)
+      go r (early S p d t (unnumbered f j m b l k n)) q = absurd (let z : _≡_ {A = ℕ} 0 1 = cc in omega arith)
+      go r (late S p f u t s l) q = absurd (no-unpublished c u q)

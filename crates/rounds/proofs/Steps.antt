@@ -1,5 +1,5 @@
 -- What a round comes to, the computation and demand 3 say alike: a change, a settled round, or an ending. Assumes nothing.
-use mathlib.Core.Path.{_≡_, refl, sym, ap, ap₂, _∙_}
+use mathlib.Core.Path.{_≡_, refl, ap, ap₂, _∙_}
 use mathlib.Core.Logic.{_⊎_, _≢_, _↔_}
 use mathlib.Core.Option.{Option, none, some}
 use mathlib.Core.Bool.{Bool, true, false, not}
@@ -55,7 +55,7 @@ module _ {Q F X : Type 0} (P : Setting Q F X) where
   module _ (S : Subset) (p : Option Q) (W : Within P S) where
     turned-says : (f : F) → P .minimum ≤ count S (P .n) → P .bestFit S p ≡ gives f → (b : Bool) → lacks f ≡ b → (w : Option ℕ) → IsWorst P S f w
         → (l : Option ℕ) → IsLeast P S f l → Says S p (turned S f b w l)
-    turned-says f m e true u w ww l ll = let s = lacks-some f (eq→T u) in unnumbered f (s .0) (s .1) m e (s .2) (s .3) refl
+    turned-says f m e true u w ww l ll = let s = lacks-some f (eq→T u) in unnumbered f (s .0) m e (s .1) (s .2) (s .3)
     turned-says f m e false u (some i) ww l ll =
         let N = all-numbers f (eq→F u) in
         removal i (record { enough = m; best = e; numbers = N }) (worst-some P S f W N i ww) (in-without S i)
@@ -64,12 +64,12 @@ module _ {Q F X : Type 0} (P : Setting Q F X) where
         return i (record { enough = m; best = e; numbers = N }) (worst-none P S f W N ww) (least-some P S f W N i ll) (in-joined S i)
     turned-says f m e false u none ww none ll =
         let N = all-numbers f (eq→F u) in
-        record { fitted = record { enough = m; best = e; numbers = N }; noneAbove = worst-none P S f W N ww; unused = least-none P S f W N ll }
+        record { fitted = record { enough = m; best = e; numbers = N }; noneAbove = worst-none P S f W N ww; noneBack = least-none P S f W N ll }
 
     begun-says : (b : Bool) → ltb (count S (P .n)) (P .minimum) ≡ b → (o : Outcome Unfit F) → P .bestFit S p ≡ o → Says S p (begun P S b o)
     unfolding decided
-    begun-says true b o e = few (ltb→lt (count S (P .n)) (P .minimum) (eq→T b)) refl
-    begun-says false b (fails x) e = unfit x (nltb→le (count S (P .n)) (P .minimum) (eq→F b)) e refl
+    begun-says true b o e = few (ltb→lt (count S (P .n)) (P .minimum) (eq→T b))
+    begun-says false b (fails x) e = unfit x (nltb→le (count S (P .n)) (P .minimum) (eq→F b)) e
     begun-says false b (gives f) e = turned-says f (nltb→le (count S (P .n)) (P .minimum) (eq→F b)) e (lacks f) refl (worst S (P .residual f) (P .n))
         (worst-is P S f) (least (kept P) S (P .residual f) (P .n)) (least-is P S f)
 
@@ -107,12 +107,11 @@ module _ {Q F X : Type 0} (P : Setting Q F X) where
 
       pub says-round : (x : Step F) → Says S p x → round P S p ≡ x
       unfolding round
-      says-round (ends e) (few h q) =
+      says-round (ends e) (few h) =
           ap (λ (b : Bool). begun P S b (P .bestFit S p))
-          (T→eq (ltb (count S (P .n)) (P .minimum)) (lt→ltb (count S (P .n)) (P .minimum) h)) ∙ ap ends (sym q)
-      says-round (ends e) (unfit u m h q) = begun-enough (fails u) m h ∙ ap ends (sym q)
-      says-round (ends e) (unnumbered f j l m h k t q) =
-          begun-turned f m h true (T→eq (lacks f) (some-lacks f j l k t)) _ _ refl refl ∙ ap ends (sym q)
+          (T→eq (ltb (count S (P .n)) (P .minimum)) (lt→ltb (count S (P .n)) (P .minimum) h))
+      says-round (ends e) (unfit u m h) = begun-enough (fails u) m h
+      says-round (ends e) (unnumbered f j m h l k t) = begun-turned f m h true (T→eq (lacks f) (some-lacks f j l k t)) _ _ refl refl
       says-round (changes R f) (removal i h w g) =
           fitted-turned f h (some i) (least (kept P) S (P .residual f) (P .n)) (some-worst P S f W (h .numbers) i w) refl
           ∙ ap (λ (A : Subset). changes A f) (alike (without S i) R (λ j. T (S j) × (j ≢ i)) (in-without S i) g)
@@ -121,4 +120,4 @@ module _ {Q F X : Type 0} (P : Setting Q F X) where
           ∙ ap (λ (A : Subset). changes A f) (alike (joined S i) R (λ j. T (S j) ⊎ (j ≡ i)) (in-joined S i) g)
       says-round (settles f) h =
           fitted-turned f (h .fitted) none none (none-worst P S f W (h .fitted .numbers) (h .noneAbove))
-          (one-least f none (none-least P S f W (h .fitted .numbers) (h .unused)))
+          (one-least f none (none-least P S f W (h .fitted .numbers) (h .noneBack)))

@@ -1,10 +1,11 @@
--- Demand 3: what a round may do, the chain of rounds, and the answer, in words that know nothing of the loop that
--- computes them. They rest on the definitions of the screen (which receptions are kept), the best fit, the normalised
--- residual and the starts, which a `Setting` holds, and on the later tests (specs/Later.antt). Statements only.
+-- Demand 3, in the words of document 01, 'The words of demand 3': each sentence stands in quotes above what says it.
+-- "All this is defined from the problem, never from what the solve noted": a `Setting` holds what a problem gives the
+-- rounds, by the definitions of the screen, the best fit and the normalised residual, and specs/Later.antt says what
+-- the source's remaining steps come to. Nothing here knows of the loop that computes the answer. Statements only.
 use mathlib.Core.Path.{_≡_}
 use mathlib.Core.Logic.{_⊎_, _≢_, _↔_}
 use mathlib.Core.Option.{Option, none, some}
-use mathlib.Core.Bool.{not, _&&_}
+use mathlib.Core.Bool.{Bool, not, _&&_}
 use mathlib.Core.List.{List, [], _∷_}
 use Prim.Native.Nat.{ℕ, zero, suc, _+_, _*_, _≤_, _<_}
 use lib.Dec.{T}
@@ -15,9 +16,10 @@ use Rattle.geo.specs.Geo.{fromEcef}
 use Rattle.sets.specs.Sets.{Subset, count}
 use Rattle.sets.specs.Mask.{has}
 use Rattle.sets.specs.Choice.{FirstBest}
-use Rattle.screen.specs.Pair as pair
+use Rattle.screen.specs.Pair.{pairPasses}
 use Rattle.problem.specs.declared.Problem.{Problem}
 use Rattle.problem.specs.Problem.{position, moment, minimum}
+use Rattle.whitening.specs.Whitened.{Chosen}
 use Rattle.damped.specs.declared.Fit.{Fit}
 use Rattle.best.specs.declared.Unfit.{Unfit}
 use Rattle.limits.specs.Heights.{minHeightM, maxHeightM}
@@ -35,65 +37,110 @@ use Rattle.rounds.specs.Solve.{limitAt, normalised, dofOf, settingAt, so
 use Rattle.rounds.specs.Later.{Published, Withheld}
 
 module _ {Q F X : Type 0} (P : Setting Q F X) where
-  -- ---- a round over the set S of included receptions, after one that found the parameters p
-  -- enough are included, f is their best fit, and every kept reception's normalised residual there is a number
+  -- ---- a round. "The rounds: their state is the set of included receptions": S. Beside it stand the parameters p that
+  -- the round before found, if there was one: the source starts from them too.
+
+  -- how many are included
+  abbrev pub included : Subset → ℕ
+  included S = count S (P .n)
+
+  -- "A round makes the best fit over the included, by the steps of solve.rs, and takes every kept reception's
+  -- normalised residual at that fit, by the same source.": f is that fit, and no refusal is met
   pub record Fitted (S : Subset) (p : Option Q) (f : F) : Type 0 where
-    pub enough : P .minimum ≤ count S (P .n)
+    pub enough : P .minimum ≤ included S
     pub best : P .bestFit S p ≡ gives f
     pub numbers : (j : ℕ) → j < P .n → T (kept P j) → T (not (isNan (P .residual f j)))
 
-  -- i is the worst included one, and above 5: no other is greater, and each before it is less. "Ties go to the lowest
-  -- index."
-  abbrev pub Worst : Subset → F → ℕ → Type 0
-  Worst S f i = FirstBest S (λ j k. lt (P .residual f k) (P .residual f j)) (P .n) i × T (lt five (P .residual f i))
+  -- the residual of j is greater than that of k, or less
+  abbrev pub greater : F → ℕ → ℕ → Bool
+  greater f j k = lt (P .residual f k) (P .residual f j)
 
-  -- no included one is above 5
-  abbrev pub NoneAbove : Subset → F → Type 0
-  NoneAbove S f = (j : ℕ) → j < P .n → T (S j) → T (le (P .residual f j) five)
+  abbrev pub less : F → ℕ → ℕ → Bool
+  less f j k = lt (P .residual f j) (P .residual f k)
+
+  -- above 5, and not above 5
+  abbrev pub Above : F → ℕ → Type 0
+  Above f j = T (lt five (P .residual f j))
+
+  abbrev pub NotAbove : F → ℕ → Type 0
+  NotAbove f j = T (le (P .residual f j) five)
 
   -- kept, but left out
   abbrev pub leftOut : Subset → Subset
   leftOut S j = kept P j && not (S j)
 
-  -- i is the least left-out one, and not above 5: no other is less, and each before it is greater
-  abbrev pub Least : Subset → F → ℕ → Type 0
-  Least S f i = FirstBest (leftOut S) (λ j k. lt (P .residual f j) (P .residual f k)) (P .n) i
-      × T (le (P .residual f i) five)
+  -- i is the greatest of the included, and above 5. "Ties go to the lowest index.": none is greater, and i is greater
+  -- than each before it
+  abbrev pub Worst : Subset → F → ℕ → Type 0
+  Worst S f i = FirstBest S (greater f) (P .n) i × Above f i
 
-  -- "Either is a change": S becomes S′, at the best fit f
+  -- i is the least of those left out, and not above 5: none is less, and i is less than each before it
+  abbrev pub Least : Subset → F → ℕ → Type 0
+  Least S f i = FirstBest (leftOut S) (less f) (P .n) i × NotAbove f i
+
+  -- no included one is above 5
+  abbrev pub NoneAbove : Subset → F → Type 0
+  NoneAbove S f = (j : ℕ) → j < P .n → T (S j) → NotAbove f j
+
+  -- each that is left out is above 5
+  abbrev pub NoneBack : Subset → F → Type 0
+  NoneBack S f = (j : ℕ) → j < P .n → T (leftOut S j) → Above f j
+
+  -- S′ is S less i
+  abbrev pub Loses : Subset → ℕ → Subset → Type 0
+  Loses S i S′ = (j : ℕ) → T (S′ j) ↔ (T (S j) × (j ≢ i))
+
+  -- S′ is S and i
+  abbrev pub Regains : Subset → ℕ → Subset → Type 0
+  Regains S i S′ = (j : ℕ) → T (S′ j) ↔ (T (S j) ⊎ (j ≡ i))
+
+  -- "Either is a change.": S, after p, becomes S′, at the best fit f
   pub data Change (S : Subset) (p : Option Q) (S′ : Subset) (f : F) : Type 0 where
     -- "If an included one is above 5, the greatest goes out."
-    removal : (i : ℕ) → Fitted S p f → Worst S f i → ((j : ℕ) → T (S′ j) ↔ (T (S j) × (j ≢ i))) → Change S p S′ f
+    removal : (i : ℕ) → Fitted S p f → Worst S f i → Loses S i S′ → Change S p S′ f
     -- "Otherwise, if a left-out one is not above 5, the least comes back."
-    return : (i : ℕ) → Fitted S p f → NoneAbove S f → Least S f i
-        → ((j : ℕ) → T (S′ j) ↔ (T (S j) ⊎ (j ≡ i))) → Change S p S′ f
+    return : (i : ℕ) → Fitted S p f → NoneAbove S f → Least S f i → Regains S i S′ → Change S p S′ f
 
   -- "With neither, the rounds are settled"
   pub record Settled (S : Subset) (p : Option Q) (f : F) : Type 0 where
     pub fitted : Fitted S p f
     pub noneAbove : NoneAbove S f
-    pub unused : (j : ℕ) → j < P .n → T (leftOut S j) → T (lt five (P .residual f j))
+    pub noneBack : NoneBack S f
 
   -- "A refusal met on the way, as for too few when a round begins or for a residual that is not a number, ends the
   -- solve, and that round makes no change."
-  pub data Ends (S : Subset) (p : Option Q) (e : Refusal) : Type 0 where
-    few : count S (P .n) < P .minimum → e ≡ TooFew (count S (P .n)) → Ends S p e
-    unfit : (u : Unfit) → P .minimum ≤ count S (P .n) → P .bestFit S p ≡ fails u → e ≡ ofUnfit u → Ends S p e
-    unnumbered : (f : F) (j : ℕ) → j < P .n → P .minimum ≤ count S (P .n) → P .bestFit S p ≡ gives f → T (kept P j)
-        → T (isNan (P .residual f j)) → e ≡ Singular → Ends S p e
+  pub data Ends (S : Subset) (p : Option Q) : Refusal → Type 0 where
+    -- 1, with their number: "fewer included than 4 (3 with altitude)"
+    few : included S < P .minimum → Ends S p (TooFew (included S))
+    -- 2, 3, 6 or 8: enough are included, and no best fit is found over them
+    unfit : (u : Unfit) → P .minimum ≤ included S → P .bestFit S p ≡ fails u → Ends S p (ofUnfit u)
+    -- 6: "a kept reception's normalised residual is not a number"
+    unnumbered :
+        (f : F) (j : ℕ) → P .minimum ≤ included S → P .bestFit S p ≡ gives f
+        → j < P .n → T (kept P j) → T (isNan (P .residual f j)) → Ends S p Singular
 
   -- ---- the rounds
-  -- k rounds, each of which makes a change, lead from S, after p, to E, after q
-  pub data Chain (E : Subset) (q : Option Q) : ℕ → Subset → Option Q → Type 0 where
-    start : Chain E q zero E q
-    then : {k : ℕ} {S S′ : Subset} {p : Option Q} {f : F} → Change S p S′ f → Chain E q k S′ (some (P .params f))
-        → Chain E q (suc k) S p
 
-  -- from all kept receptions, at most 2s + 1 changes lead to E, after q
+  -- k rounds, each of which makes a change, lead from S, after p, to E, after q
+  pub data Chain : ℕ → Subset → Option Q → Subset → Option Q → Type 0 where
+    start : {S : Subset} {p : Option Q} → Chain zero S p S p
+    then :
+        {k : ℕ} {S S′ E : Subset} {p q : Option Q} {f : F}
+        → Change S p S′ f → Chain k S′ (some (P .params f)) E q → Chain (suc k) S p E q
+
+  -- "at first all kept ones": so many changes lead from these to E, after q
+  abbrev pub Changed : ℕ → Subset → Option Q → Type 0
+  Changed k E q = Chain k (kept P) none E q
+
+  -- at most 2s + 1 changes lead to E, after q: a round is still to come
   pub record InTime (E : Subset) (q : Option Q) : Type 0 where
     pub changes : ℕ
     pub most : changes ≤ 2 * survivors P + 1
-    pub chain : Chain E q changes (kept P) none
+    pub chain : Changed changes E q
+
+  -- k rounds each made a change, whatever they lead to
+  abbrev pub EachChanged : ℕ → Type 0
+  EachChanged k = (E : Subset) × (q : Option Q) × Changed k E q
 
 -- "the source's remaining steps", for a set over which the rounds settled and its best fit: what they show, and why not
 pub record Remaining (F X : Type 0) : Type 1 where
@@ -101,8 +148,10 @@ pub record Remaining (F X : Type 0) : Type 1 where
   pub Withholds : Subset → F → Unpublished → Type 0
 
 module _ {Q F X : Type 0} (P : Setting Q F X) (L : Remaining F X) where
-  -- ---- the answer
-  -- the rounds settle in time over `used`, at their best fit, and x is what the remaining steps show of both
+  -- ---- the answer. "With neither, the rounds are settled, and the source's remaining steps at that round's best fit
+  -- give the fix or its refusal by 3, 5, 6 or 9."
+
+  -- the fix x. "Used are the receptions included when the rounds settled".
   pub record Fixed (x : X) : Type 0 where
     pub used : Subset
     pub before : Option Q
@@ -111,26 +160,28 @@ module _ {Q F X : Type 0} (P : Setting Q F X) (L : Remaining F X) where
     pub settled : Settled P used before best
     pub shown : L .Shows used best x
 
-  -- in time, a refusal ends a round, or the rounds settle and one of the remaining steps refuses
-  pub data Refused (e : Refusal) : Type 0 where
-    early : (S : Subset) (p : Option Q) → InTime P S p → Ends P S p e → Refused e
-    late : (S : Subset) (p : Option Q) (f : F) (u : Unpublished) → InTime P S p → Settled P S p f → L .Withholds S f u
-        → e ≡ ofUnpublished u → Refused e
+  -- a refusal: met on the way, or by the remaining steps
+  pub data Refused : Refusal → Type 0 where
+    early : (S : Subset) (p : Option Q) (e : Refusal) → InTime P S p → Ends P S p e → Refused e
+    late :
+        (S : Subset) (p : Option Q) (f : F) (u : Unpublished)
+        → InTime P S p → Settled P S p f → L .Withholds S f u → Refused (ofUnpublished u)
 
   -- "Demand 3 is a single claim about the whole chain of rounds and its answer": each answer is given exactly when
   pub record Claim (a : Answer X) : Type 0 where
     pub fixed : (x : X) → (a ≡ fix x) ↔ Fixed x
     pub refusals : (e : Refusal) → (a ≡ refused e) ↔ Refused e
     -- "After 2s+2 changes the answer is 4, however few are then included."
-    pub unfixed : (a ≡ noFixedPoint) ↔ ((E : Subset) × (q : Option Q) × Chain P E q (2 * survivors P + 2) (kept P) none)
+    pub unfixed : (a ≡ noFixedPoint) ↔ EachChanged P (2 * survivors P + 2)
 
 -- each outcome of the setting's remaining steps is given exactly where this says so
 pub record Exactly {Q F X : Type 0} (P : Setting Q F X) (L : Remaining F X) : Type 0 where
   pub shows : (S : Subset) (f : F) (x : X) → (P .later S f ≡ gives x) ↔ L .Shows S f x
   pub withholds : (S : Subset) (f : F) (u : Unpublished) → (P .later S f ≡ fails u) ↔ L .Withholds S f u
 
--- ---- what is found with every fix, stated of the values that its record shows
+-- ---- a problem: "an input of the solve that none of 7 and 10 to 15 turns away"
 module _ (P : Problem) where
+  -- what the rounds see of it
   abbrev pub rounds : Setting (List Float) Fit Fix
   rounds = settingAt P
 
@@ -141,46 +192,59 @@ module _ (P : Problem) where
     Withholds = Withheld (receptionsOf P) (P .«reference_ps»);
   }
 
-  -- the used receptions by the mask, and the parameters, which are the position and T
+  -- ---- what a record shows: the used receptions by the mask, and the parameters, which are the ECEF and T
   abbrev pub usedBy : Fix → Subset
   usedBy x = has (x .mask)
 
   abbrev pub paramsBy : Fix → List Float
   paramsBy x = nth (x .ecef) 0 ∷ nth (x .ecef) 1 ∷ nth (x .ecef) 2 ∷ x .t ∷ []
 
+  -- "Residuals and ranges are taken at that round's best fit, in binary64": the parameters are that fit's (`Found`,
+  -- `shows`)
+  abbrev pub residualBy : Fix → ℕ → Float
+  residualBy x j = normalised (receptionsOf P) (paramsBy x) j
+
+  abbrev pub rangeBy : Fix → ℕ → Float
+  rangeBy x j = range (P .site) (x .ecef) j
+
+  -- the used receptions, as l whitens them
+  abbrev pub whitenedBy : Fix → List Float → Chosen
+  whitenedBy x l = chosenOver (receptionsOf P) (usedBy x) l
+
+  -- "the limit is `published_chi2_limit` for the fix's dof"
+  abbrev pub limitBy : Fix → List Float → Float
+  limitBy x l = limitAt (whitenedBy x l) (x .dof) (paramsBy x)
+
+  -- Demand 3, "Found with every fix", of the values that its record shows
   pub record Found (x : Fix) (h : Fixed rounds remaining x) : Type 0 where
-    -- it uses exactly the receptions that were included when the rounds settled
+    -- "Used are the receptions included when the rounds settled, and the mask shows these."
     pub uses : usedBy x ≡ h .used
     pub usedKept : (j : ℕ) → T (usedBy x j) → T (kept rounds j)
-    -- at least four, or three with an altitude
+    -- "at least four used (three with altitude)"
     pub enough : minimum (P .altitude) ≤ count (usedBy x) (P .n)
-    -- each two kept ones pass the screen
-    pub screened : (i j : ℕ) → T (kept rounds i) → T (kept rounds j)
-        → T (pair.passes (pair.gap (pair.timeAt (P .time) i) (pair.timeAt (P .time) j))
-        (pair.baseline (pair.siteAt (P .«site_mm») i) (pair.siteAt (P .«site_mm») j)))
-    -- every used normalised residual is at most 5, every kept but unused one above 5
-    pub within : (j : ℕ) → T (usedBy x j) → T (le (normalised (receptionsOf P) (paramsBy x) j) five)
-    pub beyond : (j : ℕ) → T (kept rounds j) → T (not (usedBy x j))
-        → T (lt five (normalised (receptionsOf P) (paramsBy x) j))
-    -- used ranges are at most 600,000 m
-    pub near : (j : ℕ) → T (usedBy x j) → T (le (range (P .site) (x .ecef) j) maxRangeM)
-    -- the position is that of the ECEF, and its height from -1,500 to 25,000 m
+    -- "each two kept ones passing the screen"
+    pub screened : (i j : ℕ) → T (kept rounds i) → T (kept rounds j) → T (pairPasses (P .time) (P .«site_mm») i j)
+    -- "every used normalised residual at most 5, every kept but unused one above 5"
+    pub within : (j : ℕ) → T (usedBy x j) → T (le (residualBy x j) five)
+    pub beyond : (j : ℕ) → T (kept rounds j) → T (not (usedBy x j)) → T (lt five (residualBy x j))
+    -- "used ranges at most 600,000 m"
+    pub near : (j : ℕ) → T (usedBy x j) → T (le (rangeBy x j) maxRangeM)
+    -- "height -1,500 to 25,000 m". "height and chi-square are the record's own": the position is that of the ECEF
     pub placed : x .position ≡ fromEcef (x .ecef)
-    pub height : T (le minHeightM (x .position .«height_m»)) × T (le (x .position .«height_m») maxHeightM)
+    pub above : T (le minHeightM (x .position .«height_m»))
+    pub below : T (le (x .position .«height_m») maxHeightM)
     -- dof: "used receptions, plus one with altitude, less 4"
     pub freedom : x .dof ≡ dofOf (receptionsOf P) (usedBy x)
-    -- chi-square is not above `published_chi2_limit`
+    -- "chi-square not above its limit"
     pub factor : List Float
     pub whitened : whitenerOver (receptionsOf P) (usedBy x) ≡ found factor
-    pub consistent : T (not (lt (limitAt (chosenOver (receptionsOf P) (usedBy x) factor) (x .dof)
-        (paramsBy x)) (x .chi2)))
-    -- the best fit is the one that the record shows. Of the fits from all starts of the last round it leads: it
-    -- converged and is plausible, none that is costs less, each such one from an earlier start costs more; and none is
-    -- its rival.
+    pub consistent : T (not (lt (limitBy x factor) (x .chi2)))
+    -- "it shows the last round's best fit"
     pub shows : (position (h .best .params) ≡ x .ecef) × (moment (h .best .params) ≡ x .t) × (h .best .cost ≡ x .chi2)
+    -- which leads the fits from all starts of that round: it converged and is plausible, none that is costs less, each
+    -- such one from an earlier start costs more; and there is "no rival among the fits from all other starts"
     pub from : ℕ
-    pub best : IsBest (chosenOver (receptionsOf P) (usedBy x) factor)
-        (startsOver (receptionsOf P) (usedBy x) (h .before)) (h .best) from
+    pub best : IsBest (whitenedBy x factor) (startsOver (receptionsOf P) (usedBy x) (h .before)) (h .best) from
 
   -- demand 3, of the answer a
   pub record Demand (a : Answer Fix) : Type 0 where

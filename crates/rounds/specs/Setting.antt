@@ -52,6 +52,7 @@ pub record Setting (Q F X : Type 0) : Type 0 where
 abbrev pub five : Float
 five = # 0x4014000000000000
 
+-- "Kept are the s receptions left when no pair fails the screen; s stays that number throughout."
 module _ {Q F X : Type 0} (P : Setting Q F X) where
   abbrev pub kept : Subset
   kept = P .kept

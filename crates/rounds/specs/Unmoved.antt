@@ -2,7 +2,7 @@
 -- screen removes. Statements only: proofs/Capped.antt and proofs/Unread.antt prove them.
 use mathlib.Core.Path.{_≡_}
 use mathlib.Core.Logic.{_≢_, _↔_}
-use mathlib.Core.Option.{Option, none}
+use mathlib.Core.Option.{none}
 use Prim.Native.Nat.{ℕ, _+_, _*_, _≤_}
 use lib.Dec.{T}
 use Rattle.dense.specs.Entries.{nth, at}
@@ -10,7 +10,7 @@ use Rattle.sets.specs.Sets.{Subset}
 use Rattle.problem.specs.declared.Problem.{Problem}
 use Rattle.rounds.specs.Setting.{Answer, noFixedPoint, Setting, kept, survivors}
 use Rattle.rounds.specs.Rounds.{roundsTo}
-use Rattle.rounds.specs.Demand.{Chain, rounds}
+use Rattle.rounds.specs.Demand.{EachChanged, rounds}
 use Rattle.rounds.specs.Solve.{solveProblem}
 
 -- ---- "Let the outlier rule have a cap on rounds, from 0 up"
@@ -19,11 +19,7 @@ module _ {Q F X : Type 0} (P : Setting Q F X) where
   abbrev pub capped : ℕ → Answer X
   capped cap = roundsTo P cap (kept P) none
 
-  -- so many rounds each made a change, as demand 3 has it
-  abbrev pub EachChanged : ℕ → Type 0
-  EachChanged cap = (E : Subset) × (q : Option Q) × Chain P E q cap (kept P) none
-
--- "and give no fixed point exactly when that many each made a change"
+-- "and give no fixed point exactly when that many each made a change", as demand 3 has it
 abbrev pub CapReached : Type 1
 CapReached =
     (Q F X : Type 0) (P : Setting Q F X) (cap : ℕ)

@@ -14,7 +14,7 @@ use Rattle.sets.proofs.Tests.{either, and-l, and-r, and-both, neither-below}
 use Rattle.sets.proofs.Belonging.{in-without}
 use Rattle.sets.proofs.Counting.{count-le, count-pos, count-some, count-without}
 use Rattle.sets.proofs.Choosing.{choose-is}
-use Rattle.screen.specs.Pair.{gap, baseline, passes, timeAt, siteAt, clash, fails}
+use Rattle.screen.specs.Pair.{pairPasses, clash, fails}
 use Rattle.screen.specs.Screen.{clashes, goes, aliveTo, kept}
 use Rattle.screen.specs.Meaning.{Goes, Clear, Leaves, done, then, OnlyKeptIsLeft, KeptPass}
 
@@ -188,5 +188,5 @@ pub kept-pass : KeptPass
 unfolding clash
 kept-pass times sites n i j a b =
     let below = kept-below n (fails times sites n) in
-    not-not (passes (gap (timeAt times i) (timeAt times j)) (baseline (siteAt sites i) (siteAt sites j)))
+    not-not (pairPasses times sites i j)
     (not-clash times sites n i j (below i a) (below j b) (kept-clear n (fails times sites n) i j a b))

@@ -7,7 +7,7 @@ use Prim.Native.Nat.{ℕ, _≤_, _<_}
 use lib.Dec.{T}
 use lib.IntN.{ℤ}
 use Rattle.sets.specs.Sets.{Subset, first, without}
-use Rattle.screen.specs.Pair.{gap, baseline, passes, timeAt, siteAt, fails}
+use Rattle.screen.specs.Pair.{pairPasses, fails}
 use Rattle.screen.specs.Screen.{clashes, kept}
 
 module _ (n : ℕ) (fails : ℕ → ℕ → Bool) where
@@ -36,4 +36,4 @@ OnlyKeptIsLeft = (n : ℕ) (fails : ℕ → ℕ → Bool) (K : Subset) → Leave
 abbrev pub KeptPass : Type 0
 KeptPass =
     (times sites : List ℤ) (n i j : ℕ) → T (kept n (fails times sites n) i) → T (kept n (fails times sites n) j)
-    → T (passes (gap (timeAt times i) (timeAt times j)) (baseline (siteAt sites i) (siteAt sites j)))
+    → T (pairPasses times sites i j)

@@ -46,11 +46,14 @@ siteAt sites i = record {
   z = getD sites (3 * i + 2) (pos 0);
 }
 
--- receptions i and j are a failing pair; no reception is one with itself, as its gap is 0
+-- the pair of receptions i and j passes
+abbrev pub pairPasses : List ℤ → List ℤ → ℕ → ℕ → Bool
+pairPasses times sites i j = passes (gap (timeAt times i) (timeAt times j)) (baseline (siteAt sites i) (siteAt sites j))
+
+-- it fails; no reception is in a failing pair with itself, as its gap is 0
 unfoldable pub clash : List ℤ → List ℤ → ℕ → ℕ → Bool
 unfolding passes baseline
-clash times sites i j = not (passes (gap (timeAt times i) (timeAt times j))
-    (baseline (siteAt sites i) (siteAt sites j)))
+clash times sites i j = not (pairPasses times sites i j)
 
 -- the pair i, j of the first n receptions fails
 unfoldable pub fails : List ℤ → List ℤ → ℕ → ℕ → ℕ → Bool

@@ -12,11 +12,9 @@ use Rattle.sets.specs.Mask.{has}
 use Rattle.screen.specs.Pair as pair
 use Rattle.screen.specs.Turns.{turnOf, clashOf}
 use Rattle.problem.specs.declared.Problem.{Problem}
-use Rattle.best.specs.OfProblem.{receptionsOf}
 use Rattle.record.specs.declared.content.Fix.{Fix}
 use Rattle.record.specs.Record.{Row, from, u32, f64, written}
-use Rattle.rounds.specs.Solve.{normalised}
-use Rattle.rounds.specs.Demand.{usedBy, paramsBy}
+use Rattle.rounds.specs.Demand.{usedBy, residualBy}
 use Rattle.why.specs.declared.State.{State}
 use Rattle.why.specs.declared.State.the-variants.{Used, Removed, LeftOut}
 
@@ -38,7 +36,7 @@ clashing P = pair.fails (P .time) (P .«site_mm») (P .n)
 module _ (P : Problem) (x : Fix) where
   -- the normalised residual of reception j at the parameters of the fix
   abbrev pub residualAt : ℕ → Float
-  residualAt j = normalised (receptionsOf P) (paramsBy P x) j
+  residualAt = residualBy P x
 
   -- the state of reception j in the fix x of the problem P
   unfoldable pub stateOf : ℕ → State
