@@ -29,6 +29,7 @@ use Rattle.best.specs.Meaning.{fitFrom, Plausible, Converges, Weighed, L
 use Rattle.best.proofs.Order.{le-of-not-lt, le-lt}
 use Rattle.best.proofs.Passes.{nothing}
 use Rattle.best.proofs.Cost.{cost-number}
+use Rattle.best.proofs.Zeros.{not-itself}
 use Rattle.best.proofs.Cheapest.{Cheapest, cheapest-of, none-of, of-cheapest, of-none}
 
 -- nine more than a number is one
@@ -214,6 +215,7 @@ module _ (C : Chosen) (starts : List (List Float)) where
         let low : Bool = not (lt (top .cost ⊕ decimal 9 0) (f .cost)) in
         let far : Bool = lt (chi2Limit 4) (distance top f) in
         record {
+          other = λ e. not-itself top (subst (λ (x : ℕ). T (lt (chi2Limit 4) (distance top (fitFrom C starts x)))) e (and-r low far alike));
           weighed = w;
           costs = le-of-not-lt (top .cost ⊕ decimal 9 0) (f .cost) nine (cost-number C (getD starts j []) (w .converges .converged))
               (and-l low far alike);

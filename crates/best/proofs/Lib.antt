@@ -4,6 +4,7 @@ pub mod Order
 pub mod Passes
 pub mod Judging
 pub mod Cost
+pub mod Zeros
 pub mod Cheapest
 pub mod Found
 pub mod Listing

@@ -1,7 +1,7 @@
 -- What the best fit is and when each refusal is given, in words that know nothing of the computation. Statements only:
 -- proofs/Found.antt and proofs/Over.antt prove them.
 use mathlib.Core.Path.{_≡_}
-use mathlib.Core.Logic.{_↔_}
+use mathlib.Core.Logic.{_≢_, _↔_}
 use mathlib.Core.Bool.{not}
 use mathlib.Core.List.{List, []}
 use mathlib.Core.Option.{Option}
@@ -54,14 +54,16 @@ module _ (C : Chosen) (starts : List (List Float)) where
     pub cheapest : (j : ℕ) → Weighed j → T (le (fitFrom i .cost) (fitFrom j .cost))
     pub earliest : (j : ℕ) → j < i → Weighed j → T (lt (fitFrom i .cost) (fitFrom j .cost))
 
-  -- Document 01: "A rival is a fit .. that converged, costs at most the best fit's cost plus 9 and meets the other
-  -- tests by which `best_fit` answers 8": it is plausible, and "outside the best's own 10^-6 ellipsoid".
+  -- Document 01: "A rival is a fit over the used receptions, from any other start, that converged, costs at most the
+  -- best fit's cost plus 9 and meets the other tests by which `best_fit` answers 8": it is plausible, and "outside the
+  -- best's own 10^-6 ellipsoid".
   pub record Rival (i j : ℕ) : Type 0 where
+    pub other : j ≢ i
     pub weighed : Weighed j
     pub costs : T (le (fitFrom j .cost) (fitFrom i .cost ⊕ decimal 9 0))
     pub outside : T (lt (chi2Limit 4) (distance (fitFrom i) (fitFrom j)))
 
-  -- the fit is the best: from the i-th start, which leads, and no fit from any start is its rival
+  -- the fit is the best: from the i-th start, which leads, and no fit from another is its rival
   pub record IsBest (fit : Fit) (i : ℕ) : Type 0 where
     pub from : fit ≡ fitFrom i
     pub leads : Leads i
