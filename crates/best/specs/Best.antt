@@ -47,7 +47,12 @@ explainsAlike best other = not (lt (best .cost ⊕ decimal 9 0) (other .cost)) &
 
 -- the i-th, and no fit past the last of them
 abbrev pub fitAt : List Fit → ℕ → Fit
-fitAt fits i = getD fits i (record { ok = false; params = []; cost = nan; information = [] })
+fitAt fits i = getD fits i (record {
+  ok = false;
+  params = [];
+  cost = nan;
+  information = [];
+})
 
 -- the i-th replaces the top, unless its cost is at least the top's: `fits[index].cost >= fits[top].cost`
 abbrev pub cheaper : List Fit → ℕ → ℕ → Bool

@@ -14,7 +14,7 @@ use Rattle.problem.specs.declared.Altitude.{Altitude}
 use Rattle.problem.specs.declared.Problem.{Problem}
 use Rattle.problem.specs.Gathered.{gatherTo, sitesTo}
 use Rattle.whitening.specs.Covariance.{whitener}
-use Rattle.whitening.specs.Whitened.{Chosen, chosen}
+use Rattle.whitening.specs.Whitened.{Chosen}
 use Rattle.damped.specs.declared.Fit.{Fit}
 use Rattle.starts.specs.Starts.{startsAfter}
 use Rattle.best.specs.declared.Unfit.{Unfit}
@@ -40,7 +40,14 @@ receptions site z noise clock n altitude = record {
 }
 
 abbrev pub receptionsOf : Problem → Receptions
-receptionsOf P = receptions (P .site) (P .z) (P .«noise_m2») (P .«clock_m2») (P .n) (P .altitude)
+receptionsOf P = record {
+  n = P .n;
+  site = P .site;
+  z = P .z;
+  noise = P .«noise_m2»;
+  clock = P .«clock_m2»;
+  altitude = P .altitude;
+}
 
 -- `subset`: those of S below n, ascending; `count S n` of them
 abbrev pub subset : ℕ → Subset → List ℕ
@@ -55,19 +62,34 @@ subsetZ z n S = gatherTo z (subset n S) (replicate 32 nought) (count S n)
 
 -- over a set S of the receptions R
 module _ (R : Receptions) (S : Subset) where
-  -- the factor of their covariance, and they as the factor l whitens them
-  abbrev pub whitenerOver : Factor
-  whitenerOver = whitener (R .clock) (R .n) (R .noise) (subset (R .n) S) (count S (R .n)) zeros
+  -- how many they are, their sites and their z
+  abbrev pub countOver : ℕ
+  countOver = count S (R .n)
 
+  abbrev pub sitesOver : List Float
+  sitesOver = subsetSites (R .site) (R .n) S
+
+  abbrev pub zOver : List Float
+  zOver = subsetZ (R .z) (R .n) S
+
+  -- the factor of their covariance
+  abbrev pub whitenerOver : Factor
+  whitenerOver = whitener (R .clock) (R .n) (R .noise) (subset (R .n) S) countOver zeros
+
+  -- they, as the factor l whitens them
   abbrev pub chosenOver : List Float → Chosen
-  chosenOver l = chosen (count S (R .n)) (subsetSites (R .site) (R .n) S) (subsetZ (R .z) (R .n) S) l (R .altitude)
+  chosenOver l = record {
+    k = countOver;
+    sites = sitesOver;
+    z = zOver;
+    whitener = l;
+    altitude = R .altitude;
+  }
 
   -- their starts, the parameters of the round before first where there was one
   abbrev pub startsOver : Option (List Float) → List (List Float)
-  startsOver none = startsAfter false (replicate 4 nought) (subsetSites (R .site) (R .n) S) (subsetZ (R .z) (R .n) S)
-      (count S (R .n)) (R .altitude)
-  startsOver (some previous) = startsAfter true previous (subsetSites (R .site) (R .n) S) (subsetZ (R .z) (R .n) S)
-      (count S (R .n)) (R .altitude)
+  startsOver none = startsAfter false (replicate 4 nought) sitesOver zOver countOver (R .altitude)
+  startsOver (some previous) = startsAfter true previous sitesOver zOver countOver (R .altitude)
 
   -- the round's best fit
   unfoldable pub bestFitOver : Option (List Float) → Outcome Unfit Fit

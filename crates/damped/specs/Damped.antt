@@ -89,10 +89,20 @@ step P s =
 
 -- `Some(Fit { params, cost, information })`, and `None`
 abbrev pub fitted : Lm → Fit
-fitted s = record { ok = true; params = s .params; cost = s .cost; information = s .information }
+fitted s = record {
+  ok = true;
+  params = s .params;
+  cost = s .cost;
+  information = s .information;
+}
 
 abbrev pub unfitted : Fit
-unfitted = record { ok = false; params = replicate 4 nought; cost = nought; information = replicate 16 nought }
+unfitted = record {
+  ok = false;
+  params = replicate 4 nought;
+  cost = nought;
+  information = replicate 16 nought;
+}
 
 -- after the loop: "Converged only if a plain Gauss-Newton step from here is below tolerance."
 unfoldable pub plain : Lm → Fit

@@ -20,10 +20,10 @@ use Rattle.problem.specs.declared.Problem.{Problem}
 use Rattle.record.specs.declared.content.Fix.{Fix}
 use Rattle.rounds.specs.declared.finish.Unpublished.{Unpublished}
 use Rattle.rounds.specs.declared.finish.Unpublished.the-variants.{Inconsistent, Singular, Uncertain, OutOfRange}
-use Rattle.rounds.specs.Finish.{held, maxVarianceM2, wide, definite, certain, fixOf, inverted, finish}
+use Rattle.rounds.specs.Finish.{held, maxVarianceM2, wide, definite, certain, fixOf, inverted, finish, cholesky3}
 use Rattle.rounds.specs.Solve.{dofOf, tested, later}
 use Rattle.rounds.specs.Demand.{LaterExactly}
-use Rattle.rounds.specs.Later.{cholesky3, TooWide, variance, indefinite, Certain, limitBy, finalFactor, covarianceBy, transmit, Consistent}
+use Rattle.rounds.specs.Later.{TooWide, variance, indefinite, Certain, limitBy, finalFactor, covarianceBy, transmit, Consistent}
 use Rattle.rounds.specs.Later.{Informed, Published, Withheld}
 
 -- ---- the tests of the covariance

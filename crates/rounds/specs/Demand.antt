@@ -212,8 +212,8 @@ module _ (P : Problem) where
   whitenedBy x l = chosenOver (receptionsOf P) (usedBy x) l
 
   -- "the limit is `published_chi2_limit` for the fix's dof"
-  abbrev pub limitBy : Fix → List Float → Float
-  limitBy x l = limitAt (whitenedBy x l) (x .dof) (paramsBy x)
+  abbrev pub chi2LimitBy : Fix → List Float → Float
+  chi2LimitBy x l = limitAt (whitenedBy x l) (x .dof) (paramsBy x)
 
   -- Demand 3, "Found with every fix", of the values that its record shows
   pub record Found (x : Fix) (h : Fixed rounds remaining x) : Type 0 where
@@ -238,7 +238,7 @@ module _ (P : Problem) where
     -- "chi-square not above its limit"
     pub factor : List Float
     pub whitened : whitenerOver (receptionsOf P) (usedBy x) ≡ found factor
-    pub consistent : T (not (lt (limitBy x factor) (x .chi2)))
+    pub consistent : T (not (lt (chi2LimitBy x factor) (x .chi2)))
     -- "it shows the last round's best fit"
     pub shows : (position (h .best .params) ≡ x .ecef) × (moment (h .best .params) ≡ x .t) × (h .best .cost ≡ x .chi2)
     -- which leads the fits from all starts of that round: it converged and is plausible, none that is costs less, each

@@ -51,44 +51,53 @@ abbrev pub definite : Factor → Bool
 definite (found l) = true
 definite (refused l) = false
 
--- the covariance passes both tests of `finish`; `check` is its matrix
+-- the Cholesky of its matrix, row by row: `check.cholesky()`
+abbrev pub cholesky3 : List (List Float) → Factor
+cholesky3 c =
+    let check =
+    entry c 0 0 ∷ entry c 0 1 ∷ entry c 0 2
+    ∷ entry c 1 0 ∷ entry c 1 1 ∷ entry c 1 2
+    ∷ entry c 2 0 ∷ entry c 2 1 ∷ entry c 2 2 ∷ [] in
+    cholesky check 3 (replicate 9 nought)
+
+-- the covariance passes both tests of `finish`
 unfoldable pub certain : List (List Float) → Bool
 unfolding wide
-certain c =
-    let check = entry c 0 0 ∷ entry c 0 1 ∷ entry c 0 2 ∷ entry c 1 0 ∷ entry c 1 1 ∷ entry c 1 2 ∷ entry c 2 0 ∷ entry
-    c 2 1 ∷ entry c 2 2 ∷ [] in
-    not (wide c) && definite (cholesky check 3 (replicate 9 nought))
+certain c = not (wide c) && definite (cholesky3 c)
 
--- what a fix shows: the mask and the degrees of freedom of the used receptions, the fit, its covariance, and the
--- transmit time
-abbrev pub fixOf : ℕ → ℕ → Fit → List (List Float) → ℤ → Fix
-fixOf mask dof fit c ps = record {
-  mask = mask;
-  dof = dof;
-  ecef = position (fit .params);
-  t = moment (fit .params);
-  position = fromEcef (position (fit .params));
-  «transmit_ps» = ps;
-  r0 = row c 0;
-  r1 = row c 1;
-  r2 = row c 2;
-  chi2 = fit .cost;
-}
+-- the mask and the degrees of freedom of the used receptions, and their fit
+module _ (mask dof : ℕ) (fit : Fit) where
+  -- what a fix shows of them, with the covariance c and the transmit time
+  abbrev pub fixOf : List (List Float) → ℤ → Fix
+  fixOf c ps = record {
+    mask = mask;
+    dof = dof;
+    ecef = position (fit .params);
+    t = moment (fit .params);
+    position = fromEcef (position (fit .params));
+    «transmit_ps» = ps;
+    r0 = row c 0;
+    r1 = row c 1;
+    r2 = row c 2;
+    chi2 = fit .cost;
+  }
 
--- the tests of the covariance, then of the transmit time
-abbrev pub shown : ℕ → ℕ → Fit → List (List Float) → ℤ → Outcome Unpublished Fix
-shown mask dof fit c ps = cond (certain c)
-    (cond (held ps) (gives (fixOf mask dof fit c ps)) (fails OutOfRange)) (fails Uncertain)
+  -- the tests of the covariance, then of the transmit time
+  abbrev pub shown : List (List Float) → ℤ → Outcome Unpublished Fix
+  shown c ps = cond (certain c) (cond (held ps) (gives (fixOf c ps)) (fails OutOfRange)) (fails Uncertain)
 
-abbrev pub inverted : ℕ → ℕ → ℤ → Fit → Factor → Outcome Unpublished Fix
-inverted mask dof reference fit (found l) =
-    shown mask dof fit (published (inverse l 4 (replicate 16 nought))) (transmitPs reference (moment (fit .params)))
-inverted mask dof reference fit (refused l) = fails Singular
+-- and the reference
+module _ (mask dof : ℕ) (reference : ℤ) (fit : Fit) where
+  -- by the factor of the fit's final information
+  abbrev pub inverted : Factor → Outcome Unpublished Fix
+  inverted (found l) =
+      shown mask dof fit (published (inverse l 4 (replicate 16 nought))) (transmitPs reference (moment (fit .params)))
+  inverted (refused l) = fails Singular
 
--- `finish`
-unfoldable pub finish : ℕ → ℕ → ℤ → Fit → Outcome Unpublished Fix
-unfolding certain transmitPs
-finish mask dof reference fit = inverted mask dof reference fit (cholesky (fit .information) 4 (replicate 16 nought))
+  -- `finish`
+  unfoldable pub finish : Outcome Unpublished Fix
+  unfolding certain transmitPs
+  finish = inverted (cholesky (fit .information) 4 (replicate 16 nought))
 
 -- ---- as the code holds it
 

@@ -3,7 +3,7 @@
 use mathlib.Core.Path.{_≡_}
 use mathlib.Core.Logic.{_⊎_}
 use mathlib.Core.Bool.{not}
-use mathlib.Core.List.{List, [], _∷_}
+use mathlib.Core.List.{List}
 use Prim.Native.Nat.{ℕ, _<_}
 use lib.Dec.{T}
 use lib.IntN.{ℤ}
@@ -21,19 +21,10 @@ use Rattle.best.specs.OfProblem.{Receptions, whitenerOver, chosenOver}
 use Rattle.record.specs.declared.content.Fix.{Fix}
 use Rattle.rounds.specs.declared.finish.Unpublished.{Unpublished}
 use Rattle.rounds.specs.declared.finish.Unpublished.the-variants.{Inconsistent, Singular, Uncertain, OutOfRange}
-use Rattle.rounds.specs.Finish.{held, maxVarianceM2, transmitPs, fixOf}
+use Rattle.rounds.specs.Finish.{held, maxVarianceM2, cholesky3, transmitPs, fixOf}
 use Rattle.rounds.specs.Solve.{limitAt, dofOf}
 
 -- ---- a covariance c of three rows
-
--- its matrix, row by row, and the Cholesky of that
-abbrev pub cholesky3 : List (List Float) → Factor
-cholesky3 c =
-    let rows =
-    entry c 0 0 ∷ entry c 0 1 ∷ entry c 0 2
-    ∷ entry c 1 0 ∷ entry c 1 1 ∷ entry c 1 2
-    ∷ entry c 2 0 ∷ entry c 2 1 ∷ entry c 2 2 ∷ [] in
-    cholesky rows 3 (replicate 9 nought)
 
 -- "a variance above 1,500², or the 3 × 3 Cholesky fails"
 pub data TooWide (c : List (List Float)) : Type 0 where

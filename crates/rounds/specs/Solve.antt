@@ -54,7 +54,7 @@ limitAt C dof params = let w = whitened C params in
 
 -- the normalised residual of reception i at some parameters: `residual(*index, &fit.params).abs() / sigma(*index)`
 unfoldable pub normalised : Receptions → List Float → ℕ → Float
-normalised R params i = abs (residual (R .site) (R .z) i params) ⊘ sigma (R .clock) (R .n) (R .noise) i
+normalised R params i = abs (residual (R .site) (R .z) params i) ⊘ sigma (R .clock) (R .n) (R .noise) i
 
 module _ (R : Receptions) where
   -- the degrees of freedom of the used receptions S
@@ -97,7 +97,12 @@ solveProblem P = solved (settingAt P)
 
 -- what is gathered of the receptions S
 abbrev pub gathered : List Float → List Float → ℕ → Subset → Gathered
-gathered site z n S = record { k = count S n; index = subset n S; sites = subsetSites site n S; z = subsetZ z n S }
+gathered site z n S = record {
+  k = count S n;
+  index = subset n S;
+  sites = subsetSites site n S;
+  z = subsetZ z n S;
+}
 
 -- the best fit over S, beside its place and its rounding norm
 abbrev pub heldOver : Receptions → Subset → Option (List Float) → BestAt

@@ -23,7 +23,13 @@ pub record Chosen : Type 0 where
   pub altitude : Altitude
 
 abbrev pub chosen : ℕ → List Float → List Float → List Float → Altitude → Chosen
-chosen k sites z whitener altitude = record { k = k; sites = sites; z = z; whitener = whitener; altitude = altitude }
+chosen k sites z whitener altitude = record {
+  k = k;
+  sites = sites;
+  z = z;
+  whitener = whitener;
+  altitude = altitude;
+}
 
 -- what `whitened` gives: how many rows, their residuals r, and their slopes a, b, c and d along the four parameters
 pub record Rows : Type 0 where
@@ -35,28 +41,40 @@ pub record Rows : Type 0 where
   pub d : List Float
 
 abbrev pub rows : ℕ → List Float → List Float → List Float → List Float → List Float → Rows
-rows count r a b c d = record { count = count; r = r; a = a; b = b; c = c; d = d }
+rows count r a b c d = record {
+  count = count;
+  r = r;
+  a = a;
+  b = b;
+  c = c;
+  d = d;
+}
 
 -- the range of reception i: `linalg::norm(delta)`, delta the place of p less the site
 abbrev pub rangeAt : List Float → List Float → ℕ → Float
 rangeAt sites p i = norm (sub (position p) (siteAt sites i))
 
 -- `residual`: z - T - |x - site|, from the left
-unfoldable pub residual : List Float → List Float → ℕ → List Float → Float
-residual sites z i p = nth z i ⊖ moment p ⊖ rangeAt sites p i
+unfoldable pub residual : List Float → List Float → List Float → ℕ → Float
+residual sites z p i = nth z i ⊖ moment p ⊖ rangeAt sites p i
 
 -- its slope along an axis: `-delta[axis] / range`
 abbrev pub slopeAt : List Float → List Float → ℕ → ℕ → Float
 slopeAt sites p axis i = neg (nth (sub (position p) (siteAt sites i)) axis) ⊘ rangeAt sites p i
 
 -- reception i before it is whitened: the residual and its four slopes
-unfoldable pub rawRow : List Float → List Float → ℕ → List Float → List Float
-rawRow sites z i p = residual sites z i p ∷ slopeAt sites p 0 i ∷ slopeAt sites p 1 i ∷ slopeAt sites p
-    2 i ∷ neg one ∷ []
+unfoldable pub rawRow : List Float → List Float → List Float → ℕ → List Float
+rawRow sites z p i =
+    residual sites z p i
+    ∷ slopeAt sites p 0 i
+    ∷ slopeAt sites p 1 i
+    ∷ slopeAt sites p 2 i
+    ∷ neg one
+    ∷ []
 
 -- entry j of the row of reception i
 abbrev pub raw : List Float → List Float → List Float → ℕ → ℕ → Float
-raw sites z p j i = nth (rawRow sites z i p) j
+raw sites z p j i = nth (rawRow sites z p i) j
 
 -- the array out with f 0, .., f (k - 1) in its first k places
 unfoldable pub fillTo : (ℕ → Float) → List Float → ℕ → List Float

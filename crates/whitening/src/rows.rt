@@ -35,7 +35,7 @@ fn range(sites: &[f64; 96], i: usize, p: [f64; 4]) -> f64
 // The raw residual of one reception at the parameters p, metres.
 pub fn residual(sites: &[f64; 96], z: &[f64; 32], i: usize, p: [f64; 4]) -> f64
     requires { ⌜ i < 32 ⌝ }
-    ensures { λ r. ⌜ r ≡ residual (now (sites .entry)) (now (z .entry)) i p ⌝ }
+    ensures { λ r. ⌜ r ≡ residual (now (sites .entry)) (now (z .entry)) p i ⌝ }
 {
     z[i] - p[3] - range(sites, i, p)
 }
