@@ -14,9 +14,11 @@ use Rattle.sets.proofs.Tests.{and-l, and-r}
 use Rattle.geo.specs.declared.Geodetic.{Geodetic}
 use Rattle.problem.specs.declared.Altitude.{Altitude}
 use Rattle.problem.specs.declared.Altitude.the-variants.{None, Barometric, Gnss}
-use Rattle.whitening.specs.Whitened.{Chosen, Rows, blank, raw, pushAltitude, whitenedColumn, whitened}
+use Rattle.whitening.specs.Whitened.{Chosen, Rows, blank, raw, pushAltitude, whitened}
 use Rattle.whitening.specs.Normal.{costTo, evaluated}
+use Rattle.whitening.specs.Held.{columnOver}
 use Rattle.whitening.proofs.Joined.{received}
+use Rattle.whitening.proofs.Over.{Alike, column-alike, cost-alike}
 use Rattle.whitening.proofs.Costs.{cost-is, cost-more, room-left}
 use Rattle.whitening.specs.declared.Equations.{Equations}
 use Rattle.damped.specs.declared.Lm.{Lm}
@@ -72,14 +74,16 @@ pushed (Gnss metres) g w limit l h = rw (← cost-more (w .r) (w .count) _ (cost
     (more _ _ limit (cost-fits (w .r) (w .count)) (cost-clear (w .r) (w .count)) h)
 
 -- a step whose receptions alone cost more is not taken
-pub above : (P : Chosen) (p : List Float) (r : List Float) (part limit : Float) → P .k ≤ 32 → r ≡ whitenedColumn P p 0 → part ≡ costTo r (P .k)
-    → lt limit part ≡ true → better (evaluated P p .cost) limit ≡ false
+pub above : (P : Chosen) (p : List Float) (held r : List Float) (part limit : Float) → P .k ≤ 32 → length held ≡ 33 → r ≡ columnOver P p 0 held
+    → part ≡ costTo r (P .k) → lt limit part ≡ true → better (evaluated P p .cost) limit ≡ false
 unfolding evaluated whitened
-above P p r part limit k e f h =
+above P p held r part limit k room e f h =
     let w = received P p in
+    let like : Alike (P .k) r (w .r) = rw e (column-alike P p k 0 held room) in
+    let same : costTo r (P .k) ≡ costTo (w .r) (P .k) = cost-alike r (w .r) (P .k) like (P .k) (omega arith) in
     let long : length (w .r) ≡ 33 = room-left (P .whitener) (raw (P .sites) (P .z) p 0) blank (P .k) (P .k) in
     let high : T (lt limit (costTo (w .r) (P .k))) =
-    subst T (sym (ap (λ (y : List Float). lt limit (costTo y (P .k))) (sym e) ∙ ap (λ (v : Float). lt limit v) (sym f) ∙ h)) tt in
+    subst T (sym (ap (λ (v : Float). lt limit v) (sym (f ∙ same)) ∙ h)) tt in
     ap (λ (v : Float). better v limit) (cost-is (whitened P p) (whitened P p .count)) ∙ pushed (P .altitude) _ w limit (omega (arith, long)) high
 
 -- ---- what a step gives that is tried

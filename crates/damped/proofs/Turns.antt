@@ -1,10 +1,9 @@
 -- A turn of the run of damped steps: what is left of it after the turn gives what was left before it. Assumes nothing.
-use mathlib.Core.Path.{_≡_}
+use mathlib.Core.Path.{_≡_, ap, _∙_}
 use mathlib.Core.List.{List}
 use Prim.Native.Nat.{ℕ, suc, _+_, _-_, _<_}
 use native.Mathlib.Omega.{arith}
 use lib.Ieee.{Float}
-use Rattle.binary64.specs.Steps.{#}
 use Rattle.whitening.specs.declared.Equations.{Equations}
 use Rattle.whitening.specs.Whitened.{Chosen}
 use Rattle.whitening.specs.Normal.{evaluated}
@@ -12,8 +11,7 @@ use Rattle.damped.specs.declared.Lm.{Lm}
 use Rattle.damped.specs.declared.Verdict.{Verdict}
 use Rattle.damped.specs.declared.Stepped.{Stepped}
 use Rattle.damped.specs.declared.Fit.{Fit}
-use Rattle.damped.specs.Damped.{step, run, after, plain, levenbergMarquardt}
-use Rattle.damped.proofs.Constants.{lambda-bits}
+use Rattle.damped.specs.Damped.{step, run, after, plain, started, levenbergMarquardt}
 
 -- a turn that ends in the verdict v
 pub turn : (P : Chosen) (n : ℕ) (s : Lm) (t : Stepped) (out : Fit) (v : Verdict) → n < 50 → run P (50 - n) s ≡ out → t ≡ step P s → t .verdict ≡ v
@@ -26,13 +24,7 @@ pub ended : (P : Chosen) (n : ℕ) (s : Lm) (out : Fit) → n ≡ 50 → run P (
 unfolding run
 ended P n s out h r = rw h at r
 
--- the run from a start, with the bits of `LM_LAMBDA`
-pub begun : (P : Chosen) (p : List Float) (e : Equations) → e ≡ evaluated P p → run P 50 (record {
-  params = p;
-  information = e .information;
-  gradient = e .gradient;
-  cost = e .cost;
-  lambda = # 0x3F50624DD2F1A9FC;
-}) ≡ levenbergMarquardt P p
+-- the run from a start
+pub begun : (P : Chosen) (p : List Float) (e : Equations) (s : Lm) → e ≡ evaluated P p → s ≡ started p e → run P 50 s ≡ levenbergMarquardt P p
 unfolding levenbergMarquardt
-begun P p e h = rw (lambda-bits, h)
+begun P p e s h g = ap (run P 50) (g ∙ ap (started p) h)

@@ -3,7 +3,8 @@ ghost use mathlib.Core.Path.{_≡_};
 ghost use mathlib.Core.Bool.{true};
 ghost use Prim.Native.Nat.{_≤_};
 ghost use Rattle.whitening.specs.Whitened.{chosen, placeOf};
-ghost use Rattle.damped.specs.Damped.{fitted, unfitted, plain, run, levenbergMarquardt};
+ghost use Rattle.whitening.specs.Held.{Scratch};
+ghost use Rattle.damped.specs.Damped.{fitted, unfitted, plain, started, run, levenbergMarquardt};
 ghost use Rattle.damped.specs.Placed.{nowhere, placed};
 use crate::Fit;
 use crate::LM_ITERATIONS;
@@ -15,6 +16,7 @@ use crate::descent;
 use crate::small;
 use geo::Geodetic;
 use problem::Altitude;
+use whitening::Equations;
 
 // `Some` of a state as a fit.
 fn fitted(state: Lm) -> Fit
@@ -70,25 +72,48 @@ fn nowhere() -> Geodetic
     }
 }
 
+// The state at a start, where the normal equations are `first`.
+fn started(start: [f64; 4], first: Equations) -> Lm
+    ensures { λ r. ⌜ r ≡ started start first ⌝ }
+{
+    let information = first.information;
+    let gradient = first.gradient;
+    Lm {
+        params: start,
+        information,
+        gradient,
+        cost: first.cost,
+        lambda: LM_LAMBDA,
+    }
+}
+
 // The loop of `levenberg_marquardt` from a state of this place, and the test after it.
 fn run(
     start: Lm,
-    at: Geodetic,
+    place: Geodetic,
     sites: &[f64; 96],
     z: &[f64; 32],
     k: usize,
     l: &[f64; 1024],
     altitude: Altitude,
+    r: &mut [f64; 33],
+    squared: &mut [f64; 32],
+    ranges: &mut [f64; 32],
+    a: &mut [f64; 33],
+    b: &mut [f64; 33],
+    c: &mut [f64; 33],
+    d: &mut [f64; 33],
 ) -> Placed
-    requires { ⌜ (k ≤ 32) × (at ≡ placeOf altitude (start .params)) ⌝ }
+    requires { ⌜ (k ≤ 32) × (place ≡ placeOf altitude (start .params)) ⌝ }
+    requires { ⌜ Scratch (now r) (now squared) (now ranges) (now a) (now b) (now c) (now d) ⌝ }
     ensures { λ r. ⌜ r .fit ≡ run (chosen k (now (sites .entry)) (now (z .entry)) (now (l .entry))
         altitude) 50 start ⌝ }
     ensures { λ r. ⌜ ((r .fit .ok ≡ true) → r .place ≡ placeOf altitude (r .fit .params)) ⌝ }
 {
     let mut state = start;
-    let mut place = at;
+    let mut at = place;
     for n in 0usize..LM_ITERATIONS {
-        let moved = state.step(place, sites, z, k, l, altitude);
+        let moved = state.step(at, sites, z, k, l, altitude, r, squared, ranges, a, b, c, d);
         let turn = moved.stepped;
         let there = moved.place;
         let verdict = turn.verdict;
@@ -110,10 +135,10 @@ fn run(
             }
         }
         state = next;
-        place = there;
+        at = there;
     }
     let fit = plain(state);
-    Placed { fit, place }
+    Placed { fit, place: at }
 }
 
 // A fit beside its place, which the last step that was taken has where there is an altitude.
@@ -140,6 +165,64 @@ fn placed(fit: Fit, place: Geodetic, altitude: Altitude) -> Placed
     Placed { fit, place }
 }
 
+// `levenberg_marquardt` from a start of this place, in arrays that are lent to each of its steps.
+fn refined(
+    sites: &[f64; 96],
+    z: &[f64; 32],
+    k: usize,
+    l: &[f64; 1024],
+    altitude: Altitude,
+    start: [f64; 4],
+    at: Geodetic,
+    r: &mut [f64; 33],
+    squared: &mut [f64; 32],
+    ranges: &mut [f64; 32],
+    a: &mut [f64; 33],
+    b: &mut [f64; 33],
+    c: &mut [f64; 33],
+    d: &mut [f64; 33],
+) -> Placed
+    requires { ⌜ (k ≤ 32) × (at ≡ placeOf altitude start) ⌝ }
+    requires { ⌜ Scratch (now r) (now squared) (now ranges) (now a) (now b) (now c) (now d) ⌝ }
+    ensures { λ r. ⌜ r .fit ≡ levenbergMarquardt
+        (chosen k (now (sites .entry)) (now (z .entry)) (now (l .entry)) altitude) start ⌝ }
+    ensures { λ r. ⌜ ((r .fit .ok ≡ true) → r .place ≡ placeOf altitude (r .fit .params)) ⌝ }
+{
+    let first = whitening::evaluated(
+        sites,
+        z,
+        k,
+        l,
+        altitude,
+        start,
+        at,
+        r,
+        squared,
+        ranges,
+        a,
+        b,
+        c,
+        d,
+    );
+    let state = started(start, first);
+    run(
+        state,
+        at,
+        sites,
+        z,
+        k,
+        l,
+        altitude,
+        r,
+        squared,
+        ranges,
+        a,
+        b,
+        c,
+        d,
+    )
+}
+
 // Levenberg-Marquardt from `start` over the k receptions at `sites` that came at `z`, whitened by
 // the factor l.
 pub fn levenberg_marquardt(
@@ -155,17 +238,29 @@ pub fn levenberg_marquardt(
         (chosen k (now (sites .entry)) (now (z .entry)) (now (l .entry)) altitude) start) ⌝ }
 {
     let at = whitening::place(altitude, start);
-    let first = whitening::evaluated(sites, z, k, l, altitude, start, at);
-    let information = first.information;
-    let gradient = first.gradient;
-    let state = Lm {
-        params: start,
-        information,
-        gradient,
-        cost: first.cost,
-        lambda: LM_LAMBDA,
-    };
-    let ended = run(state, at, sites, z, k, l, altitude);
+    let mut r = [0.0; 33];
+    let mut squared = [0.0; 32];
+    let mut ranges = [0.0; 32];
+    let mut a = [0.0; 33];
+    let mut b = [0.0; 33];
+    let mut c = [0.0; 33];
+    let mut d = [0.0; 33];
+    let ended = refined(
+        sites,
+        z,
+        k,
+        l,
+        altitude,
+        start,
+        at,
+        &mut r,
+        &mut squared,
+        &mut ranges,
+        &mut a,
+        &mut b,
+        &mut c,
+        &mut d,
+    );
     let fit = ended.fit;
     placed(fit, ended.place, altitude)
 }

@@ -6,6 +6,7 @@ pub use fitting::levenberg_marquardt;
 ghost use mathlib.Core.Path.{_≡_};
 ghost use Prim.Native.Nat.{_≤_};
 ghost use Rattle.whitening.specs.Whitened.{chosen, placeOf};
+ghost use Rattle.whitening.specs.Held.{Scratch};
 ghost use Rattle.damped.specs.Damped.{dampedTo, descent, moved, small, better, accepted, rejected, tried, step};
 use geo::Geodetic;
 use problem::Altitude;
@@ -198,26 +199,44 @@ fn tried(
     k: usize,
     l: &[f64; 1024],
     altitude: Altitude,
+    r: &mut [f64; 33],
+    squared: &mut [f64; 32],
+    ranges: &mut [f64; 32],
+    a: &mut [f64; 33],
+    b: &mut [f64; 33],
+    c: &mut [f64; 33],
+    d: &mut [f64; 33],
 ) -> SteppedAt
     requires { ⌜ (k ≤ 32) × (place ≡ placeOf altitude (state .params)) ⌝ }
+    requires { ⌜ Scratch (now r) (now squared) (now ranges) (now a) (now b) (now c) (now d) ⌝ }
     ensures { λ r. ⌜ r .stepped ≡ tried (chosen k (now (sites .entry)) (now (z .entry)) (now (l .entry)) altitude)
         state x candidate ⌝ }
     ensures { λ r. ⌜ r .place ≡ placeOf altitude (r .stepped .state .params) ⌝ }
+    ensures { λ _. ⌜ Scratch (now (r .exit)) (now (squared .exit)) (now (ranges .exit)) (now (a .exit)) (now (b .exit))
+        (now (c .exit)) (now (d .exit)) ⌝ }
 {
     let cost = state.cost;
-    let mut r = [0.0; 33];
-    let mut ranges = [0.0; 32];
-    let part = whitening::residuals(sites, z, k, l, candidate, &mut r, &mut ranges);
+    let part = whitening::residuals(sites, z, k, l, candidate, r, squared, ranges);
     if cost < part {
         let stepped = rejected(state);
         return SteppedAt { stepped, place };
     }
     let there = whitening::place(altitude, candidate);
-    if better(
-        whitening::push_height(altitude, there, k, part, &mut r),
-        cost,
-    ) {
-        let next = whitening::completed(sites, k, l, altitude, candidate, there, &ranges, &r);
+    if better(whitening::push_height(altitude, there, k, part, r), cost) {
+        let next = whitening::completed(
+            sites,
+            k,
+            l,
+            altitude,
+            candidate,
+            there,
+            &*ranges,
+            &*r,
+            a,
+            b,
+            c,
+            d,
+        );
         let stepped = accepted(state.lambda, x, candidate, next);
         return SteppedAt {
             stepped,
@@ -238,11 +257,21 @@ impl Lm {
         k: usize,
         l: &[f64; 1024],
         altitude: Altitude,
+        r: &mut [f64; 33],
+        squared: &mut [f64; 32],
+        ranges: &mut [f64; 32],
+        a: &mut [f64; 33],
+        b: &mut [f64; 33],
+        c: &mut [f64; 33],
+        d: &mut [f64; 33],
     ) -> SteppedAt
         requires { ⌜ (k ≤ 32) × (place ≡ placeOf altitude (self .params)) ⌝ }
+        requires { ⌜ Scratch (now r) (now squared) (now ranges) (now a) (now b) (now c) (now d) ⌝ }
         ensures { λ r. ⌜ r .stepped ≡ step
             (chosen k (now (sites .entry)) (now (z .entry)) (now (l .entry)) altitude) self ⌝ }
         ensures { λ r. ⌜ r .place ≡ placeOf altitude (r .stepped .state .params) ⌝ }
+        ensures { λ _. ⌜ Scratch (now (r .exit)) (now (squared .exit)) (now (ranges .exit)) (now (a .exit))
+            (now (b .exit)) (now (c .exit)) (now (d .exit)) ⌝ }
     {
         let params = self.params;
         let information = self.information;
@@ -252,7 +281,24 @@ impl Lm {
         if found.ok {
             let x = found.x;
             let candidate = moved(params, x);
-            return tried(self, place, x, candidate, sites, z, k, l, altitude);
+            return tried(
+                self,
+                place,
+                x,
+                candidate,
+                sites,
+                z,
+                k,
+                l,
+                altitude,
+                r,
+                squared,
+                ranges,
+                a,
+                b,
+                c,
+                d,
+            );
         }
         let stepped = Stepped {
             state: self,

@@ -35,12 +35,12 @@ unfolding costTo
 cost-more r k v s h e = ap₂ (λ (t x : Float). t ⊕ x ⊗ x) (e ∙ sym (cost-past r k v k (omega arith))) (sym (getD-set-same r k v nan h))
     ∙ ap (costTo (set r k v)) (sym (add-one k))
 
-forward-length : (l : List Float) (n : ℕ) (b : List Float) (i : ℕ) → length (forwardTo l n b i) ≡ length b
+pub forward-length : (l : List Float) (n : ℕ) (b : List Float) (i : ℕ) → length (forwardTo l n b i) ≡ length b
 unfolding forwardTo
 forward-length l n b zero = refl
 forward-length l n b (suc i) = length-set (forwardTo l n b i) i _ ∙ forward-length l n b i
 
-fill-length : (f : ℕ → Float) (out : List Float) (n : ℕ) → length (fillTo f out n) ≡ length out
+pub fill-length : (f : ℕ → Float) (out : List Float) (n : ℕ) → length (fillTo f out n) ≡ length out
 unfolding fillTo
 fill-length f out zero = refl
 fill-length f out (suc n) = length-set (fillTo f out n) n (f n) ∙ fill-length f out n

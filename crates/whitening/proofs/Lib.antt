@@ -1,5 +1,6 @@
 pub mod Costs
 pub mod Turns
+pub mod Over
 pub mod Joined
 pub mod Ranges
 pub mod Meaning

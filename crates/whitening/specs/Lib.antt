@@ -1,4 +1,5 @@
 pub mod Covariance
 pub mod Whitened
+pub mod Held
 pub mod Normal
 pub mod Meaning

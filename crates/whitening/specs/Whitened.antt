@@ -81,10 +81,6 @@ unfoldable pub fillTo : (ℕ → Float) → List Float → ℕ → List Float
 fillTo f out zero = out
 fillTo f out (suc k) = set (fillTo f out k) k (f k)
 
--- the ranges of k receptions, in an array of zeros for 32
-abbrev pub rangesTo : List Float → List Float → ℕ → List Float
-rangesTo sites p k = fillTo (rangeAt sites p) (replicate 32 nought) k
-
 -- room for 32 receptions and the altitude
 abbrev pub blank : List Float
 blank = replicate 33 nought

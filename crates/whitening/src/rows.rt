@@ -2,17 +2,17 @@
 // residuals in r, the slopes along the four parameters in a, b, c and d.
 ghost use mathlib.Core.Path.{_≡_};
 ghost use Prim.Native.Nat.{_+_, _≤_, _<_};
-ghost use lib.ListN.{length, replicate, set};
+ghost use lib.ListN.{length, set};
 ghost use Rattle.dense.specs.Solve.{forward};
 ghost use mathlib.Core.List.{List, []};
 ghost use lib.Ieee.{Float};
 ghost use Rattle.binary64.specs.Root.{root};
-ghost use Rattle.binary64.specs.Steps.{nought};
 ghost use Rattle.geo.specs.Geo.{fromEcef};
 ghost use Rattle.problem.specs.Problem.{position};
-ghost use Rattle.whitening.specs.Whitened.{rangeAt, residual, fillTo, raw, rangesTo, placeOf, pushAltitude};
+ghost use Rattle.whitening.specs.Whitened.{rangeAt, residual, fillTo, raw, placeOf, pushAltitude};
 ghost use Rattle.whitening.specs.Whitened.{blank, chosen, rows, whitened};
 ghost use Rattle.whitening.specs.Normal.{costTo};
+ghost use Rattle.whitening.specs.Held.{Ranged};
 use crate::slopes::slopes;
 use geo::Geodetic;
 use problem::Altitude;
@@ -51,15 +51,21 @@ fn squared_range(sites: &[f64; 96], i: usize, p: [f64; 4]) -> f64
 }
 
 // The ranges of k receptions, their roots taken together.
-fn ranges_of(sites: &[f64; 96], k: usize, p: [f64; 4], ranges: &mut [f64; 32])
-    requires { ⌜ k ≤ 32 ⌝ }
+fn ranges_of(
+    sites: &[f64; 96],
+    k: usize,
+    p: [f64; 4],
+    squared: &mut [f64; 32],
+    ranges: &mut [f64; 32],
+)
+    requires { ⌜ (k ≤ 32) × (length (now squared) ≡ 32) ⌝ }
+    ensures { λ _. ⌜ length (now (squared .exit)) ≡ 32 ⌝ }
     ensures { λ _. ⌜ now (ranges .exit) ≡ fillTo (rangeAt (now (sites .entry)) p) (now (ranges .entry)) k ⌝ }
 {
-    let mut squared = [0.0; 32];
     for i in 0..k {
         squared[i] = squared_range(sites, i, p);
     }
-    binary64::roots(&squared, k, &mut *ranges);
+    binary64::roots(&*squared, k, &mut *ranges);
 }
 
 // The raw residuals of k receptions, and their ranges.
@@ -69,13 +75,15 @@ fn raw_residuals(
     k: usize,
     p: [f64; 4],
     r: &mut [f64; 33],
+    squared: &mut [f64; 32],
     ranges: &mut [f64; 32],
 )
-    requires { ⌜ (k ≤ 32) × (k ≤ length (now ranges)) ⌝ }
+    requires { ⌜ (k ≤ 32) × (length (now squared) ≡ 32) × (length (now ranges) ≡ 32) ⌝ }
     ensures { λ _. ⌜ now (r .exit) ≡ fillTo (raw (now (sites .entry)) (now (z .entry)) p 0) (now (r .entry)) k ⌝ }
+    ensures { λ _. ⌜ length (now (squared .exit)) ≡ 32 ⌝ }
     ensures { λ _. ⌜ now (ranges .exit) ≡ fillTo (rangeAt (now (sites .entry)) p) (now (ranges .entry)) k ⌝ }
 {
-    ranges_of(sites, k, p, &mut *ranges);
+    ranges_of(sites, k, p, &mut *squared, &mut *ranges);
     for i in 0..k {
         r[i] = z[i] - p[3] - ranges[i];
     }
@@ -93,8 +101,8 @@ fn squares(r: &[f64; 33], k: usize) -> f64
     sum
 }
 
-// The whitened residuals of k receptions and their ranges, into arrays of zeros: gives their part of
-// the cost.
+// The whitened residuals of k receptions and their ranges, over what the arrays held: gives their part
+// of the cost.
 pub fn residuals(
     sites: &[f64; 96],
     z: &[f64; 32],
@@ -102,16 +110,19 @@ pub fn residuals(
     l: &[f64; 1024],
     p: [f64; 4],
     r: &mut [f64; 33],
+    squared: &mut [f64; 32],
     ranges: &mut [f64; 32],
 ) -> f64
-    requires { ⌜ (k ≤ 32) × (now r ≡ blank) × (now ranges ≡ replicate 32 nought) ⌝ }
-    ensures { λ _. ⌜ (k < length (now (r .exit)))
+    requires { ⌜ (k ≤ 32) × (length (now r) ≡ 33) × (length (now squared) ≡ 32) × (length (now ranges) ≡ 32) ⌝ }
+    ensures { λ _. ⌜ (length (now (r .exit)) ≡ 33)
         × (now (r .exit) ≡ forward (now (l .entry)) k
-        (fillTo (raw (now (sites .entry)) (now (z .entry)) p 0) blank k)) ⌝ }
-    ensures { λ _. ⌜ now (ranges .exit) ≡ rangesTo (now (sites .entry)) p k ⌝ }
+        (fillTo (raw (now (sites .entry)) (now (z .entry)) p 0) (now (r .entry)) k)) ⌝ }
+    ensures { λ _. ⌜ length (now (squared .exit)) ≡ 32 ⌝ }
+    ensures { λ _. ⌜ (length (now (ranges .exit)) ≡ 32)
+        × Ranged (now (sites .entry)) p k (now (ranges .exit)) ⌝ }
     ensures { λ s. ⌜ s ≡ costTo (now (r .exit)) k ⌝ }
 {
-    raw_residuals(sites, z, k, p, &mut *r, &mut *ranges);
+    raw_residuals(sites, z, k, p, &mut *r, &mut *squared, &mut *ranges);
     dense::forward(l, k, &mut *r);
     squares(&*r, k)
 }
@@ -201,8 +212,9 @@ pub fn whitened(
     ensures { λ m. ⌜ rows m (now (r .exit)) (now (a .exit)) (now (b .exit)) (now (c .exit)) (now (d .exit))
         ≡ whitened (chosen k (now (sites .entry)) (now (z .entry)) (now (l .entry)) altitude) p ⌝ }
 {
+    let mut squared = [0.0; 32];
     let mut ranges = [0.0; 32];
-    let part = residuals(sites, z, k, l, p, &mut *r, &mut ranges);
+    let part = residuals(sites, z, k, l, p, &mut *r, &mut squared, &mut ranges);
     let cost = push_height(altitude, geodetic, k, part, &mut *r);
     slopes(
         sites,

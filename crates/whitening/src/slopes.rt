@@ -7,8 +7,9 @@ ghost use Rattle.dense.specs.Solve.{forward};
 ghost use mathlib.Core.List.{List, [], _∷_};
 ghost use lib.Ieee.{Float, neg};
 ghost use Rattle.binary64.specs.Steps.{one};
-ghost use Rattle.whitening.specs.Whitened.{rangeAt, slopeAt, fillTo, rangesTo, upRow, placeOf, pushAltitude};
-ghost use Rattle.whitening.specs.Whitened.{blank, chosen, rows, whitened};
+ghost use Rattle.whitening.specs.Whitened.{rangeAt, slopeAt, fillTo, upRow, placeOf, pushAltitude};
+ghost use Rattle.whitening.specs.Whitened.{blank, chosen, rows, beside};
+ghost use Rattle.whitening.specs.Held.{Ranged, over};
 use crate::rows::BARO_SIGMA_M;
 use crate::rows::GNSS_SIGMA_M;
 use geo::Geodetic;
@@ -61,8 +62,7 @@ fn raw_slopes(
     c: &mut [f64; 33],
     d: &mut [f64; 33],
 )
-    requires { ⌜ k ≤ 32 ⌝ }
-    requires { ⌜ now ranges ≡ rangesTo (now sites) p k ⌝ }
+    requires { ⌜ (k ≤ 32) × Ranged (now sites) p k (now ranges) ⌝ }
     ensures { λ _. ⌜ now (a .exit) ≡ fillTo (slopeAt (now (sites .entry)) p 0) (now (a .entry)) k ⌝ }
     ensures { λ _. ⌜ now (b .exit) ≡ fillTo (slopeAt (now (sites .entry)) p 1) (now (b .entry)) k ⌝ }
     ensures { λ _. ⌜ now (c .exit) ≡ fillTo (slopeAt (now (sites .entry)) p 2) (now (c .entry)) k ⌝ }
@@ -172,8 +172,8 @@ fn push_up(
     }
 }
 
-// The whitened slopes of k receptions of these ranges, the altitude's last, into arrays of zeros: gives
-// how many rows there are.
+// The whitened slopes of k receptions of these ranges, the altitude's last, over what the arrays held:
+// gives how many rows there are.
 pub fn slopes(
     sites: &[f64; 96],
     k: usize,
@@ -187,14 +187,11 @@ pub fn slopes(
     c: &mut [f64; 33],
     d: &mut [f64; 33],
 ) -> usize
-    requires { ⌜ k ≤ 32 ⌝ }
-    requires { ⌜ now ranges ≡ rangesTo (now sites) p k ⌝ }
-    requires { ⌜ geodetic ≡ placeOf altitude p ⌝ }
-    requires { ⌜ (now a ≡ blank) × (now b ≡ blank) × (now c ≡ blank) × (now d ≡ blank) ⌝ }
+    requires { ⌜ (k ≤ 32) × Ranged (now sites) p k (now ranges) × (geodetic ≡ placeOf altitude p) ⌝ }
     ensures { λ m. ⌜ m ≤ 33 ⌝ }
-    ensures { λ m. ⌜ ((z : List Float) → rows m
-        (whitened (chosen k (now (sites .entry)) z (now (l .entry)) altitude) p .r) (now (a .exit)) (now (b .exit))
-        (now (c .exit)) (now (d .exit)) ≡ whitened (chosen k (now (sites .entry)) z (now (l .entry)) altitude) p) ⌝ }
+    ensures { λ m. ⌜ ((z r : List Float) → rows m r (now (a .exit)) (now (b .exit)) (now (c .exit)) (now (d .exit))
+        ≡ beside r (over (chosen k (now (sites .entry)) z (now (l .entry)) altitude) p
+        (rows k blank (now (a .entry)) (now (b .entry)) (now (c .entry)) (now (d .entry))))) ⌝ }
 {
     raw_slopes(sites, k, p, ranges, &mut *a, &mut *b, &mut *c, &mut *d);
     forward4(l, k, &mut *a, &mut *b, &mut *c, &mut *d);

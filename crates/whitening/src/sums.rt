@@ -3,8 +3,9 @@ ghost use mathlib.Core.Path.{_≡_};
 ghost use mathlib.Core.List.{List};
 ghost use Prim.Native.Nat.{_≤_};
 ghost use lib.Ieee.{Float};
-ghost use Rattle.whitening.specs.Whitened.{rangesTo, placeOf, chosen, rows, whitened, beside};
+ghost use Rattle.whitening.specs.Whitened.{placeOf, chosen, rows, whitened, beside};
 ghost use Rattle.whitening.specs.Normal.{plusProducts, plusMultiple, normal, evaluated};
+ghost use Rattle.whitening.specs.Held.{Ranged, Slopes, Scratch};
 use crate::Equations;
 use crate::rows::push_height;
 use crate::rows::residuals;
@@ -95,31 +96,19 @@ pub fn completed(
     geodetic: Geodetic,
     ranges: &[f64; 32],
     r: &[f64; 33],
+    a: &mut [f64; 33],
+    b: &mut [f64; 33],
+    c: &mut [f64; 33],
+    d: &mut [f64; 33],
 ) -> Equations
-    requires { ⌜ k ≤ 32 ⌝ }
-    requires { ⌜ now ranges ≡ rangesTo (now sites) p k ⌝ }
-    requires { ⌜ geodetic ≡ placeOf altitude p ⌝ }
+    requires { ⌜ (k ≤ 32) × Ranged (now sites) p k (now ranges) × (geodetic ≡ placeOf altitude p) ⌝ }
+    requires { ⌜ Slopes (now a) (now b) (now c) (now d) ⌝ }
     ensures { λ e. ⌜ ((z : List Float) → e
         ≡ normal (beside (now (r .entry)) (whitened (chosen k (now (sites .entry)) z (now (l .entry)) altitude) p))) ⌝ }
+    ensures { λ _. ⌜ Slopes (now (a .exit)) (now (b .exit)) (now (c .exit)) (now (d .exit)) ⌝ }
 {
-    let mut a = [0.0; 33];
-    let mut b = [0.0; 33];
-    let mut c = [0.0; 33];
-    let mut d = [0.0; 33];
-    let count = slopes(
-        sites,
-        k,
-        l,
-        altitude,
-        p,
-        geodetic,
-        ranges,
-        &mut a,
-        &mut b,
-        &mut c,
-        &mut d,
-    );
-    normal(r, &a, &b, &c, &d, count)
+    let count = slopes(sites, k, l, altitude, p, geodetic, ranges, a, b, c, d);
+    normal(r, &*a, &*b, &*c, &*d, count)
 }
 
 // The normal equations of k receptions and the altitude at the parameters p, where the altitude's place
@@ -132,13 +121,34 @@ pub fn evaluated(
     altitude: Altitude,
     p: [f64; 4],
     geodetic: Geodetic,
+    r: &mut [f64; 33],
+    squared: &mut [f64; 32],
+    ranges: &mut [f64; 32],
+    a: &mut [f64; 33],
+    b: &mut [f64; 33],
+    c: &mut [f64; 33],
+    d: &mut [f64; 33],
 ) -> Equations
     requires { ⌜ (k ≤ 32) × (geodetic ≡ placeOf altitude p) ⌝ }
+    requires { ⌜ Scratch (now r) (now squared) (now ranges) (now a) (now b) (now c) (now d) ⌝ }
     ensures { λ e. ⌜ e ≡ evaluated (chosen k (now (sites .entry)) (now (z .entry)) (now (l .entry)) altitude) p ⌝ }
+    ensures { λ _. ⌜ Scratch (now (r .exit)) (now (squared .exit)) (now (ranges .exit)) (now (a .exit)) (now (b .exit))
+        (now (c .exit)) (now (d .exit)) ⌝ }
 {
-    let mut r = [0.0; 33];
-    let mut ranges = [0.0; 32];
-    let part = residuals(sites, z, k, l, p, &mut r, &mut ranges);
-    let cost = push_height(altitude, geodetic, k, part, &mut r);
-    completed(sites, k, l, altitude, p, geodetic, &ranges, &r)
+    let part = residuals(sites, z, k, l, p, r, squared, ranges);
+    let cost = push_height(altitude, geodetic, k, part, r);
+    completed(
+        sites,
+        k,
+        l,
+        altitude,
+        p,
+        geodetic,
+        &*ranges,
+        &*r,
+        a,
+        b,
+        c,
+        d,
+    )
 }

@@ -15,26 +15,28 @@ moved-requires : tie.Need-moved-requires
 moved-requires c κs = search needs
 
 tried-requires : tie.Need-tried-requires
-tried-requires c κs = search needs
+tried-requires c κs =
+    c .before .before .before .before .before .before .before .before .before .before .before .before .before .before .before .before .pre
 
 returns : tie.Need-returns
 unfolding step
-returns c = (
-  rw (
-    ← c .before .before .before .before .before .before .damped .ensures,
-    ← c .before .before .before .before .descent .ensures,
-    c .before .before .before .if1 .taken,
-    ← c .before .moved .ensures,
-    c .tried .ensures .0,
-  ),
-  c .tried .ensures .1,
-)
+returns c =
+    let made = c .before .before .before .before .before .before .before .before in (
+      rw (
+        ← made .before .before .before .before .before .damped .ensures,
+        ← made .before .before .before .descent .ensures,
+        made .before .before .if1 .taken,
+        ← made .moved .ensures,
+        c .tried .ensures .0,
+      ),
+      c .tried .ensures .1,
+    )
 
 returns-2 : tie.Need-returns-2
 unfolding step
 returns-2 c = (
   rw (← c .before .before .before .damped .ensures, ← c .before .descent .ensures, c .if1 .left),
-  c .before .before .before .before .before .before .before .pre .1,
+  let pre = c .before .before .before .before .before .before .before .pre in (pre .0 .1, pre .1),
 )
 
 pub step-spec : {M : Type 1} → statement M

@@ -1,33 +1,29 @@
--- `damped::fitting::levenberg_marquardt` meets its contract. It is the run from the state at the start (`begun`), beside its place. Assumes nothing.
+-- `damped::fitting::levenberg_marquardt` meets its contract. It is what `refined` gives, beside its place. Assumes nothing.
 use borrow.Author.Needs.{needs}
-use mathlib.Core.Path.{ap, _∙_}
+use mathlib.Core.Path.{refl, ap, _∙_}
 use Rattle.damped.specs.Placed.{placed}
-use Rattle.damped.proofs.Turns.{begun}
 use Rattle.damped.proofs.fitting.levenberg_marquardt.Statement.{statement}
 use Rattle.damped.proofs.fitting.levenberg_marquardt.Tie as tie
 
 place-requires : tie.Need-place-requires
 place-requires c κs = search needs
 
-evaluated-requires : tie.Need-evaluated-requires
-evaluated-requires c κs = (c .before .pre, c .place .ensures)
-
-run-requires : tie.Need-run-requires
-run-requires c κs = (c .before .before .before .before .pre, c .before .before .before .place .ensures)
+refined-requires : tie.Need-refined-requires
+refined-requires c κs =
+    let at = c .before .before .before .before .before .before .before in
+    ((at .before .pre, at .place .ensures), ((refl, refl, refl), (refl, refl, refl, refl)))
 
 placed-requires : tie.Need-placed-requires
-placed-requires c κs = c .before .run .ensures .1
+placed-requires c κs = c .before .refined .ensures .1
 
 returns : tie.Need-returns
-returns c = c .placed .ensures ∙ ap placed (c .before .before .run .ensures .0
-    ∙ begun _ _ _ (c .before .before .before .before .before .evaluated .ensures))
+returns c = c .placed .ensures ∙ ap placed (c .before .before .refined .ensures .0)
 
 pub levenberg-marquardt-spec : {M : Type 1} → statement M
 levenberg-marquardt-spec =
     tie.close
     (tie.spec
     place-requires
-    evaluated-requires
-    run-requires
+    refined-requires
     placed-requires
     returns)

@@ -4,21 +4,20 @@ use borrow.Author.Needs.{needs}
 use mathlib.Core.Path.{_≡_, _∙_}
 use Prim.Native.Nat.{_≤_, _<_, _-_}
 use native.Mathlib.Omega.{arith}
-use lib.ListN.{length, length-set, length-replicate}
-use Rattle.binary64.specs.Steps.{nought}
+use lib.ListN.{length, length-set}
 use Rattle.whitening.specs.Whitened.{rangeAt}
 use Rattle.whitening.proofs.Ranges.{Squared, one-more, roots-fill}
 use Rattle.whitening.proofs.rows.ranges_of.Statement.{statement}
 use Rattle.whitening.proofs.rows.ranges_of.Tie as tie
 
 abbrev Inv-loop : tie.InvT-loop
-Inv-loop sites k p ranges squared₀ i₀ squared i = (i ≤ k) × (length squared ≡ 32) × Squared squared (rangeAt sites p) i
+Inv-loop sites k p squared₀ ranges i₀ squared i = (i ≤ k) × (length squared ≡ 32) × Squared squared (rangeAt sites p) i
 
 abbrev μ-loop : tie.MeasureT-loop
-μ-loop sites k p ranges squared₀ i₀ squared i = k - i
+μ-loop sites k p squared₀ ranges i₀ squared i = k - i
 
 loop-holds : tie.Need-loop-holds Inv-loop μ-loop
-loop-holds c = (omega arith, length-replicate 32 nought, λ j h. absurd (omega arith))
+loop-holds c = (omega arith, c .pre .1, λ j h. absurd (omega arith))
 
 squared-range-requires : tie.Need-squared-range-requires Inv-loop μ-loop
 squared-range-requires c κs = search needs
@@ -26,8 +25,8 @@ squared-range-requires c κs = search needs
 mul-squared : tie.Need-mul-squared Inv-loop μ-loop
 mul-squared c = search needs
 
-array-write-squared : tie.Need-array-write-squared Inv-loop μ-loop
-array-write-squared c = search needs
+element-write-squared : tie.Need-element-write-squared Inv-loop μ-loop
+element-write-squared c = search needs
 
 add-i : tie.Need-add-i Inv-loop μ-loop
 add-i c = search needs
@@ -51,7 +50,7 @@ returns c =
     let l = c .before .before .before .before .loop in
     let s = c .before .before .before .before .before .args in
     let all : l .i ≡ s .k = omega arith in
-    c .roots .ensures ∙ roots-fill (l .squared) (s .ranges .now) (rangeAt (s .sites .now) (s .p)) (s .k) (rw all at (l .inv .2))
+    (l .inv .1, c .roots .ensures ∙ roots-fill (l .squared) (s .ranges .now) (rangeAt (s .sites .now) (s .p)) (s .k) (rw all at (l .inv .2)))
 
 pub ranges-of-spec : {M : Type 1} → statement M
 ranges-of-spec =
@@ -62,7 +61,7 @@ ranges-of-spec =
     loop-holds
     squared-range-requires
     mul-squared
-    array-write-squared
+    element-write-squared
     add-i
     loop-less
     loop-again

@@ -14,10 +14,10 @@ use Rattle.whitening.proofs.rows.raw_residuals.Statement.{statement}
 use Rattle.whitening.proofs.rows.raw_residuals.Tie as tie
 
 abbrev Inv-loop : tie.InvT-loop
-Inv-loop sites z k r₀ ranges p i₀ r i = (i ≤ k) × (r ≡ fillTo (raw sites z p 0) r₀ i)
+Inv-loop sites z k r₀ squared ranges p i₀ r i = (i ≤ k) × (r ≡ fillTo (raw sites z p 0) r₀ i)
 
 abbrev μ-loop : tie.MeasureT-loop
-μ-loop sites z k r₀ ranges p i₀ r i = k - i
+μ-loop sites z k r₀ squared ranges p i₀ r i = k - i
 
 ranges-of-requires : tie.Need-ranges-of-requires Inv-loop μ-loop
 ranges-of-requires c κs = search needs
@@ -58,17 +58,17 @@ unfolding fillTo rawRow residual
 loop-again c =
     let l = c .before .before .before .loop in
     let called = c .before .before .before .before in
-    let s = called .before .before .args in
+    let s = called .before .before .before .args in
     let f = rangeAt (s .sites .now) (s .t4) in
-    let far : nth (called .ranges-of .last .1 .1 .1 .0) (l .i) ≡ f (l .i) =
-    ap (λ (y : List Float). nth y (l .i)) (called .ranges-of .ensures)
-    ∙ fill-at f (s .ranges .now) (s .k) (l .i) (called .before .before .pre .1) (omega arith) in
+    let far : nth (called .ranges-of .last .1 .1 .1 .1 .0) (l .i) ≡ f (l .i) =
+    ap (λ (y : List Float). nth y (l .i)) (called .ranges-of .ensures .1)
+    ∙ fill-at f (s .ranges .now) (s .k) (l .i) (omega (arith, called .before .before .before .pre .2)) (omega arith) in
     (omega arith, rw (add-one, ← l .inv .1, far))
 
 returns : tie.Need-returns Inv-loop μ-loop
 returns c =
     let l = c .before .loop in
-    let all : l .i ≡ c .before .before .before .before .args .k = omega arith in
+    let all : l .i ≡ c .before .before .before .before .before .args .k = omega arith in
     (rw all at (l .inv .1), c .before .before .ranges-of .ensures)
 
 pub raw-residuals-spec : {M : Type 1} → statement M

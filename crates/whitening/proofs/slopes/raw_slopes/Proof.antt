@@ -1,17 +1,13 @@
--- `whitening::slopes::raw_slopes` meets its contract. The invariant: each array is filled below i. The range of a turn is the one lent (`fill-at`).
--- The measure is what is left of k. Assumes nothing.
+-- `whitening::slopes::raw_slopes` meets its contract. The invariant: each array is filled below i. The range of a turn is the one lent. The
+-- measure is what is left of k. Assumes nothing.
 use borrow.Author.Needs.{needs}
-use mathlib.Core.Path.{_≡_, refl, ap, _∙_}
-use mathlib.Core.List.{List}
+use mathlib.Core.Path.{_≡_, refl}
 use Prim.Native.Nat.{_≤_, _-_}
 use native.Mathlib.Numerals.{add-one}
 use native.Mathlib.Omega.{arith}
-use denote.Ref.{now}
-use lib.Ieee.{Float, neg}
+use lib.Ieee.{neg}
 use Rattle.binary64.specs.Steps.{one}
-use Rattle.dense.specs.Entries.{nth}
-use Rattle.whitening.specs.Whitened.{rangeAt, slopeAt, fillTo}
-use Rattle.whitening.proofs.Costs.{fill-at}
+use Rattle.whitening.specs.Whitened.{slopeAt, fillTo}
 use Rattle.whitening.proofs.slopes.raw_slopes.Statement.{statement}
 use Rattle.whitening.proofs.slopes.raw_slopes.Tie as tie
 
@@ -33,13 +29,7 @@ element-copy-out-slope-row : tie.Need-element-copy-out-slope-row Inv-loop μ-loo
 element-copy-out-slope-row c = search needs
 
 slope-row-requires : tie.Need-slope-row-requires Inv-loop μ-loop
-slope-row-requires c κs =
-    let at = c .before .before .before .args in
-    let i = c .before .before .loop .i in (
-      omega arith,
-      ap (λ (y : List Float). nth y i) (c .before .before .before .pre .1)
-          ∙ fill-at (rangeAt (now (at .sites)) (at .p)) _ (at .k) i (omega arith) (omega arith),
-    )
+slope-row-requires c κs = (omega arith, c .before .before .before .pre .1 (c .before .before .loop .i) (omega arith))
 
 put-slopes-requires : tie.Need-put-slopes-requires Inv-loop μ-loop
 put-slopes-requires c κs = search needs

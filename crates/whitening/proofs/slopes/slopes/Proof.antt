@@ -7,7 +7,7 @@ use Rattle.whitening.proofs.slopes.slopes.Statement.{statement}
 use Rattle.whitening.proofs.slopes.slopes.Tie as tie
 
 raw-slopes-requires : tie.Need-raw-slopes-requires
-raw-slopes-requires c κs = (c .before .before .before .before .pre .0, c .before .before .before .before .pre .1 .0)
+raw-slopes-requires c κs = (c .before .before .before .before .pre .0, c .before .before .before .before .pre .1)
 
 forward4-requires : tie.Need-forward4-requires
 forward4-requires c κs = search needs
@@ -21,8 +21,9 @@ returns c =
     let pre = c .before .before .before .before .before .before .before .before .before .before .before .before .before .before .before .pre in
     let last = c .push-up .ensures in (
       last .0,
-      λ z. slopes-joined (chosen (at .k) (now (at .sites)) z (now (at .l)) (at .altitude)) (at .p) (at .geodetic) (pre .1 .1 .0) _
-          (pre .1 .1 .1) (c .before .before .before .before .before .before .before .before .before .before .raw-slopes .ensures)
+      λ z. slopes-joined (chosen (at .k) (now (at .sites)) z (now (at .l)) (at .altitude)) (at .p) (at .geodetic) (pre .2) _
+          (now (at .a)) (now (at .b)) (now (at .c)) (now (at .d))
+          (c .before .before .before .before .before .before .before .before .before .before .raw-slopes .ensures)
           (c .before .before .before .before .before .forward4 .ensures) (last .1),
     )
 

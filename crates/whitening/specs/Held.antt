@@ -1,0 +1,37 @@
+-- What the arrays hold that a fit lends to each of its steps: they have room, and bring what the step before left.
+-- Definitions only.
+use mathlib.Core.Path.{_≡_}
+use mathlib.Core.List.{List}
+use Prim.Native.Nat.{ℕ, _<_}
+use lib.ListN.{length}
+use lib.Ieee.{Float}
+use Rattle.dense.specs.Entries.{nth}
+use Rattle.dense.specs.Solve.{forward}
+use Rattle.geo.specs.Geo.{fromEcef}
+use Rattle.problem.specs.Problem.{position}
+use Rattle.whitening.specs.Whitened.{Chosen, Rows, rows, rangeAt, raw, fillTo, pushAltitude}
+
+-- the first k of an array are the ranges of the receptions
+abbrev pub Ranged : List Float → List Float → ℕ → List Float → Type 0
+Ranged sites p k ranges = (i : ℕ) → i < k → nth ranges i ≡ rangeAt sites p i
+
+-- room for 32 receptions and the altitude in each column of slopes
+abbrev pub Slopes : List Float → List Float → List Float → List Float → Type 0
+Slopes a b c d = (length a ≡ 33) × (length b ≡ 33) × (length c ≡ 33) × (length d ≡ 33)
+
+-- and in the residuals; for 32 receptions in the squares of the ranges and in the ranges
+abbrev pub Scratch
+    : List Float → List Float → List Float → List Float → List Float → List Float → List Float → Type 0
+Scratch r squared ranges a b c d =
+    ((length r ≡ 33) × (length squared ≡ 32) × (length ranges ≡ 32)) × Slopes a b c d
+
+-- `whitenedColumn` over what an array held in the place of zeros: what lies past the k rows stays
+abbrev pub columnOver : Chosen → List Float → ℕ → List Float → List Float
+columnOver P p j held = forward (P .whitener) (P .k) (fillTo (raw (P .sites) (P .z) p j) held (P .k))
+
+-- `whitened` over what five arrays held
+abbrev pub over : Chosen → List Float → Rows → Rows
+over P p held =
+    pushAltitude (P .altitude) (fromEcef (position p))
+    (rows (P .k) (columnOver P p 0 (held .r)) (columnOver P p 1 (held .a)) (columnOver P p 2 (held .b))
+    (columnOver P p 3 (held .c)) (columnOver P p 4 (held .d)))
