@@ -139,7 +139,7 @@ fn kept_receptions(mark: u32) -> u32
     if mark < RECEPTIONS {
         return mark;
     }
-    if (mark - RECEPTIONS) % 132 == 0 {
+    if (mark - RECEPTIONS) as usize % receptions::RECEPTION_BYTES == 0 {
         return RECEPTIONS;
     }
     RECEPTIONS - 1

@@ -33,7 +33,7 @@ widen n k (fin s m e) l h = le-trans h (mul-le-mul-right (down e) l)
 
 -- ---- its bits
 -- the float with this sign and the lower bits of b
-abbrev withSign : ℕ → Bool → Float
+abbrev pub withSign : ℕ → Bool → Float
 withSign b s = ofFields binary64 s (b % 2 ^ 63 / 2 ^ 52) (b % 2 ^ 63 % 2 ^ 52)
 
 parted : (x : Float) → fits binary64 x ≡ true → withSign (toBits binary64 x) (leb (2 ^ 63) (toBits binary64 x)) ≡ x

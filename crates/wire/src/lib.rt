@@ -1,10 +1,11 @@
 // Document 02, item 5: positions as the wire writes them, whole numbers of 10^-7 degree and of
 // millimetres, and back.
 ghost use mathlib.Core.Path.{_≡_};
-ghost use mathlib.Core.Bool.{Bool, _&&_};
+ghost use mathlib.Core.Bool.{Bool, not, _&&_};
 ghost use Prim.Native.Nat.{_*_, _/_, _%_, _^_, _<_};
+ghost use lib.Dec.{T};
 ghost use lib.IntN.{natAbs};
-ghost use lib.Ieee.{binary64, ofFields};
+ghost use lib.Ieee.{binary64, isNan, ofFields, toBits};
 ghost use Rattle.wire.specs.Nearest.{signed};
 ghost use Rattle.wire.specs.Wire.{perDegree, perMetre, inUnits, AtMost, within, between, writable, ofPosition};
 ghost use Rattle.wire.specs.Wire.{toWire, readable, back, fromWire};
@@ -73,13 +74,20 @@ pub fn signed(minus: bool, size: u64) -> i32
     n
 }
 
-// The whole number nearest to the exact value of x times `unit`, a half away from zero: from the
-// bits of x, since a product in binary64 would be rounded before.
+// The bits of a number, which are exact: a product in binary64 would be rounded before.
+fn bits_of(x: f64) -> u64
+    requires { ⌜ T (not (isNan x)) ⌝ }
+    ensures { λ r. ⌜ r ≡ toBits binary64 x ⌝ }
+{
+    f64::to_bits(x)
+}
+
+// The whole number nearest to the exact value of x times `unit`, a half away from zero.
 fn nearest(x: f64, unit: u64) -> i32
     requires { ⌜ AtMost 25000 x × (unit < 2 ^ 24) × (natAbs (inUnits unit x) < 2 ^ 31) ⌝ }
     ensures { λ r. ⌜ r ≡ inUnits unit x ⌝ }
 {
-    let bits = f64::to_bits(x);
+    let bits = bits_of(x);
     signed(bits >= SIGN, magnitude(bits % SIGN, unit))
 }
 

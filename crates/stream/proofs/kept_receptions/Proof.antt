@@ -19,6 +19,9 @@ returns-2 c =
     let e : min m oneTooMany ≡ m = omega arith in
     rw (ne-eqb m absent (c .before .if1 .left), e, lt-ltb m oneTooMany (c .if2 .taken))
 
+cast-if3 : tie.Need-cast-if3
+cast-if3 c = search needs
+
 returns-3 : tie.Need-returns-3
 returns-3 c =
     let m = c .before .before .before .args .mark in
@@ -35,4 +38,4 @@ returns-4 c =
     rw (ne-eqb m absent (c .before .before .if1 .left), e, ne-eqb ((m - oneTooMany) % receptionBytes) 0 (c .if3 .left))
 
 pub kept-receptions-spec : {M : Type 1} → statement M
-kept-receptions-spec = tie.close (tie.spec returns returns-2 returns-3 sub-result returns-4)
+kept-receptions-spec = tie.close (tie.spec returns returns-2 cast-if3 returns-3 sub-result returns-4)
