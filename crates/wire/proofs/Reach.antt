@@ -20,12 +20,6 @@ use Rattle.wire.specs.Wire.{inUnits, AtMost, within}
 use Rattle.wire.proofs.Distance.{size}
 use Rattle.wire.proofs.Meaning.{by-value}
 
-pub number : (n : ℕ) (x : Float) → AtMost n x → T (not (isNan x))
-unfolding isNan
-number n nan h = absurd h
-number n (inf s) h = absurd h
-number n (fin s m e) h = tt
-
 pub widen : (n k : ℕ) (x : Float) → n ≤ k → AtMost n x → AtMost k x
 widen n k nan l h = h
 widen n k (inf s) l h = h

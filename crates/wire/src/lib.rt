@@ -1,11 +1,10 @@
 // Document 02, item 5: positions as the wire writes them, whole numbers of 10^-7 degree and of
 // millimetres, and back.
 ghost use mathlib.Core.Path.{_≡_};
-ghost use mathlib.Core.Bool.{Bool, not, _&&_};
+ghost use mathlib.Core.Bool.{Bool, _&&_};
 ghost use Prim.Native.Nat.{_*_, _/_, _%_, _^_, _<_};
-ghost use lib.Dec.{T};
 ghost use lib.IntN.{natAbs};
-ghost use lib.Ieee.{binary64, isNan, ofFields, toBits};
+ghost use lib.Ieee.{binary64, ofFields, toBits};
 ghost use Rattle.wire.specs.Nearest.{signed};
 ghost use Rattle.wire.specs.Wire.{perDegree, perMetre, inUnits, AtMost, within, between, writable, ofPosition};
 ghost use Rattle.wire.specs.Wire.{toWire, readable, back, fromWire};
@@ -76,10 +75,9 @@ pub fn signed(minus: bool, size: u64) -> i32
 
 // The bits of a number, which are exact: a product in binary64 would be rounded before.
 fn bits_of(x: f64) -> u64
-    requires { ⌜ T (not (isNan x)) ⌝ }
     ensures { λ r. ⌜ r ≡ toBits binary64 x ⌝ }
 {
-    f64::to_bits(x)
+    binary64::to_bits(x)
 }
 
 // The whole number nearest to the exact value of x times `unit`, a half away from zero.

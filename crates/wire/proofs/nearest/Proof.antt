@@ -1,5 +1,6 @@
 -- `wire::nearest` meets its contract: the size comes from the bits below the sign (`bits-low`), and the sign is the highest bit (`of-bits`).
 -- Assumes nothing.
+use borrow.Author.Needs.{needs}
 use mathlib.Core.Path.{_≡_, sym, ap, subst, _∙_}
 use Prim.Native.Nat.{ℕ, _*_, _%_, _<_, _^_}
 use lib.Dec.{leb}
@@ -7,12 +8,12 @@ use Rattle.wire.specs.Nearest.{signed}
 use Rattle.wire.specs.Wire.{inUnits}
 use Rattle.wire.proofs.Distance.{size}
 use Rattle.wire.proofs.Words.{held}
-use Rattle.wire.proofs.Reach.{number, bits-low, withSign, of-bits}
+use Rattle.wire.proofs.Reach.{bits-low, withSign, of-bits}
 use Rattle.wire.proofs.nearest.Statement.{statement}
 use Rattle.wire.proofs.nearest.Tie as tie
 
 bits-of-requires : tie.Need-bits-of-requires
-bits-of-requires c κs = number 25000 _ (c .pre .0)
+bits-of-requires c κs = search needs
 
 magnitude-requires : tie.Need-magnitude-requires
 magnitude-requires c κs =
