@@ -1,4 +1,10 @@
 // Numbers as people write them: digits with a point among them or none, a minus in front or none.
+ghost use Prim.Native.Nat.{_≤_};
+ghost use mathlib.Core.Path.{_≡_};
+ghost use mathlib.Core.Bool.{cond};
+ghost use lib.Ieee.{neg};
+ghost use lib.ListN.{length, drop};
+ghost use Rattle.find_fixes.specs.Decimals as decimals;
 
 // With fewer than this there is room for a digit more. A whole number of 15 digits is one that an f64 holds, and so is
 // a power of ten below that, so that their quotient is the f64 nearest to the decimal.
@@ -19,7 +25,9 @@ pub struct Number {
     pub value: f64,
 }
 
-fn spoilt() -> Digits {
+fn spoilt() -> Digits
+    ensures { λ r. ⌜ r ≡ decimals.spoilt ⌝ }
+{
     Digits {
         good: false,
         some: true,
@@ -30,7 +38,9 @@ fn spoilt() -> Digits {
 }
 
 // The digits and a point.
-fn pointed(d: Digits) -> Digits {
+fn pointed(d: Digits) -> Digits
+    ensures { λ r. ⌜ r ≡ decimals.pointed d ⌝ }
+{
     if d.point {
         return spoilt();
     }
@@ -44,7 +54,9 @@ fn pointed(d: Digits) -> Digits {
 }
 
 // The digits and one more byte.
-fn next(d: Digits, byte: u8) -> Digits {
+fn next(d: Digits, byte: u8) -> Digits
+    ensures { λ r. ⌜ r ≡ decimals.next d byte ⌝ }
+{
     if byte == b'.' {
         return pointed(d);
     }
@@ -72,7 +84,10 @@ fn next(d: Digits, byte: u8) -> Digits {
 }
 
 // The digits of the text from byte `from` on.
-fn digits_from(text: &[u8], from: usize) -> Digits {
+fn digits_from(text: &[u8], from: usize) -> Digits
+    requires { ⌜ from ≤ length (now text) ⌝ }
+    ensures { λ r. ⌜ r ≡ decimals.digitsOf decimals.begun (drop from (now (text .entry))) ⌝ }
+{
     let mut d = Digits {
         good: true,
         some: false,
@@ -87,17 +102,33 @@ fn digits_from(text: &[u8], from: usize) -> Digits {
     d
 }
 
-fn value(d: Digits, minus: bool) -> Number {
-    let size = std::num::nearest_u64_to_f64(d.whole) / std::num::nearest_u64_to_f64(d.scale);
-    let value = if minus { -size } else { size };
-    Number {
-        good: d.good && d.some,
-        value,
+fn signed(size: f64, minus: bool) -> f64
+    ensures { λ r. ⌜ r ≡ cond minus (neg size) size ⌝ }
+{
+    if minus {
+        return -size;
     }
+    size
+}
+
+fn value(d: Digits, minus: bool) -> Number
+    ensures { λ r. ⌜ r ≡ decimals.valueOf d minus ⌝ }
+{
+    let size = std::num::nearest_u64_to_f64(d.whole) / std::num::nearest_u64_to_f64(d.scale);
+    let value = signed(size, minus);
+    if d.good {
+        return Number {
+            good: d.some,
+            value,
+        };
+    }
+    Number { good: false, value }
 }
 
 // The number that the text is; not good where it is none, or has over 15 digits.
-fn parsed(text: &[u8]) -> Number {
+fn parsed(text: &[u8]) -> Number
+    ensures { λ r. ⌜ r ≡ decimals.numberOf (now (text .entry)) ⌝ }
+{
     if text.len() == 0 {
         return value(spoilt(), false);
     }

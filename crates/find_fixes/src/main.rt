@@ -10,10 +10,13 @@
 // The file is read block by block, for the language has no heap: each block is whole records, but for the last of a
 // torn file, and what is found in a block is found by `near`.
 mod decimals;
+mod lines;
 
+ghost use Prim.Native.Nat.{_≤_};
 ghost use mathlib.Core.Path.{_≡_};
 ghost use mathlib.Core.Bool.{cond};
 ghost use lib.Dec.{eqb};
+ghost use lib.ListN.{length};
 ghost use Rattle.near.specs.Near.{nearestAnswer};
 ghost use Rattle.near.specs.Parts.{nearestIn, joined};
 use decimals::Number;
@@ -22,7 +25,10 @@ use geo::Geodetic;
 use libc::STDERR_FILENO;
 use libc::STDOUT_FILENO;
 use linalg::Vec3;
+use lines::fix_line;
+use lines::nearest_line;
 use near::Held;
+use text::Text;
 
 // The bytes of a record, the records of a block, and its bytes.
 const SIZE: usize = 176;
@@ -59,12 +65,13 @@ fn say(text: &[u8]) {
     io::write_all(STDERR_FILENO, text);
 }
 
-fn print(text: &[u8]) -> bool {
-    io::write_all(STDOUT_FILENO, text)
-}
-
-fn print_number(number: u64) -> bool {
-    io::print_decimal(STDOUT_FILENO, number)
+// Prints a line. Whether it was written.
+fn print(line: Text) -> bool
+    requires { ⌜ (length (line .bytes) ≡ 512) × (line .n ≤ 512) ⌝ }
+{
+    let bytes = line.bytes;
+    let n = line.n;
+    io::write_all(STDOUT_FILENO, &bytes[..n])
 }
 
 // Whether what was printed was written; where it was not, that is said.
@@ -77,27 +84,6 @@ fn told(written: bool) -> bool {
 
 // ---- distances
 
-// Whole millimetres as metres.
-fn print_mm(n: u64) -> bool {
-    let whole = print_number(n / 1000);
-    let point = print(b".");
-    let tenth = print_number(n / 100 % 10);
-    let hundredth = print_number(n / 10 % 10);
-    let thousandth = print_number(n % 10);
-    whole && point && tenth && hundredth && thousandth
-}
-
-// Metres to the nearest millimetre.
-fn print_metres(metres: f64) -> bool {
-    let mm = metres * 1000.0 + 0.5;
-    if mm > -1.0 {
-        if mm < 18446744073709551616.0 {
-            return print_mm(std::num::truncating_f64_to_u64(mm));
-        }
-    }
-    print(b"over 10^16")
-}
-
 // How far the position of a fix is from the point, as `near` has it.
 fn distance(bytes: &[u8], point: Vec3) -> f64 {
     if bytes.len() != SIZE {
@@ -107,15 +93,6 @@ fn distance(bytes: &[u8], point: Vec3) -> f64 {
     let y = words::f64_at(bytes, 24);
     let z = words::f64_at(bytes, 32);
     linalg::norm(linalg::sub([x, y, z], point))
-}
-
-fn print_fix(place: u64, distance: f64) -> bool {
-    let word = print(b"place ");
-    let number = print_number(place);
-    let comma = print(b", ");
-    let metres = print_metres(distance);
-    let end = print(b" m away\n");
-    word && number && comma && metres && end
 }
 
 // ---- what is turned away
@@ -179,7 +156,7 @@ fn name_block(block: &[u8], base: u64, point: Vec3, radius: f64) -> bool {
         if (i as u64) < count {
             let place = places[i];
             let d = distance(reader::record_at(block, place), point);
-            if !print_fix(std::num::wrapping_add_u64(base, place), d) {
+            if !print(fix_line(std::num::wrapping_add_u64(base, place), d)) {
                 return false;
             }
         }
@@ -273,15 +250,6 @@ fn passed(file: u32, query: u32) -> bool {
     file == 0 && query == 0
 }
 
-fn print_nearest(best: Best) -> bool {
-    if !best.found {
-        return print(b"nearest: none, the file has no fix\n");
-    }
-    let word = print(b"nearest: ");
-    let fix = print_fix(best.place, best.distance);
-    word && fix
-}
-
 // A bad query is looked at after the file, which is searched from the origin then.
 fn place_asked(point: Vec3, good: bool) -> Vec3 {
     if good {
@@ -301,7 +269,7 @@ fn find(path: &[u8], point: Vec3, radius: f64) {
             name: false,
         },
     );
-    if passed(best.refusal, refusal) && told(print_nearest(best)) {
+    if passed(best.refusal, refusal) && told(print(nearest_line(held(best)))) {
         searched(
             path,
             Query {

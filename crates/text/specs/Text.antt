@@ -16,7 +16,7 @@ textOf t = take (t .n) (t .bytes)
 
 -- it has room for k bytes more
 abbrev pub Room : Text → ℕ → Type 0
-Room t k = (length (t .bytes) ≡ 128) × (t .n + k ≤ 128)
+Room t k = (length (t .bytes) ≡ 512) × (t .n + k ≤ 512)
 
 -- words, which are ASCII
 abbrev pub ascii : String → List ℕ

@@ -6,7 +6,7 @@ ghost use lib.ListN.{length};
 ghost use Rattle.text.specs.Text.{textOf, Room, decimal};
 
 // Room for the longest text.
-pub const ROOM: usize = 128;
+pub const ROOM: usize = 512;
 
 // The first n of the bytes.
 pub struct Text {
@@ -15,7 +15,7 @@ pub struct Text {
 }
 
 pub fn empty() -> Text
-    ensures { λ r. ⌜ (textOf r ≡ []) × (length (r .bytes) ≡ 128) × (r .n ≡ 0) ⌝ }
+    ensures { λ r. ⌜ (textOf r ≡ []) × (length (r .bytes) ≡ 512) × (r .n ≡ 0) ⌝ }
 {
     Text {
         bytes: [0u8; ROOM],
@@ -26,7 +26,7 @@ pub fn empty() -> Text
 // The text and a piece more.
 pub fn with(text: Text, piece: &[u8]) -> Text
     requires { ⌜ Room text (length (now piece)) ⌝ }
-    ensures { λ r. ⌜ (textOf r ≡ textOf text ++ now (piece .entry)) × (length (r .bytes) ≡ 128)
+    ensures { λ r. ⌜ (textOf r ≡ textOf text ++ now (piece .entry)) × (length (r .bytes) ≡ 512)
         × (r .n ≡ text .n + length (now (piece .entry))) ⌝ }
 {
     let mut bytes = text.bytes;
@@ -43,7 +43,7 @@ pub fn with(text: Text, piece: &[u8]) -> Text
 // The text and a number more, in decimal digits.
 pub fn with_number(text: Text, number: u64) -> Text
     requires { ⌜ Room text 20 ⌝ }
-    ensures { λ r. ⌜ (textOf r ≡ textOf text ++ decimal number) × (length (r .bytes) ≡ 128)
+    ensures { λ r. ⌜ (textOf r ≡ textOf text ++ decimal number) × (length (r .bytes) ≡ 512)
         × (r .n ≤ text .n + 20) ⌝ }
 {
     let mut digits = [0u8; 20];

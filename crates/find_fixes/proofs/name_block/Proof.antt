@@ -1,4 +1,4 @@
--- `find_fixes::name_block` ends: each turn looks at an entry. Assumes nothing.
+-- `find_fixes::name_block` meets its contract. Each turn looks at an entry. Assumes nothing.
 use borrow.Author.Needs.{needs}
 use Prim.Native.Nat.{_-_, _≤_}
 use native.Mathlib.Omega.{arith}
@@ -35,8 +35,14 @@ distance-requires c κs = search needs
 wrapping-add-u64-requires : tie.Need-wrapping-add-u64-requires Inv-loop μ-loop
 wrapping-add-u64-requires c κs = search needs
 
-print-fix-requires : tie.Need-print-fix-requires Inv-loop μ-loop
-print-fix-requires c κs = search needs
+fix-line-requires : tie.Need-fix-line-requires Inv-loop μ-loop
+fix-line-requires c κs = search needs
+
+print-requires : tie.Need-print-requires Inv-loop μ-loop
+print-requires c κs = search needs
+
+returns : tie.Need-returns Inv-loop μ-loop
+returns c = search needs
 
 add-i : tie.Need-add-i Inv-loop μ-loop
 add-i c = search needs
@@ -46,9 +52,6 @@ loop-less c = search needs
 
 loop-again : tie.Need-loop-again Inv-loop μ-loop
 loop-again c = omega arith
-
-returns : tie.Need-returns Inv-loop μ-loop
-returns c = search needs
 
 returns-2 : tie.Need-returns-2 Inv-loop μ-loop
 returns-2 c = search needs
@@ -67,7 +70,8 @@ name-block-spec =
     record-at-requires
     distance-requires
     wrapping-add-u64-requires
-    print-fix-requires
+    fix-line-requires
+    print-requires
     returns
     add-i
     loop-less

@@ -12,7 +12,7 @@ use Rattle.text.proofs.with.Statement.{statement}
 use Rattle.text.proofs.with.Tie as tie
 
 abbrev Inv-loop : tie.InvT-loop
-Inv-loop piece bytes₀ n i₀ i-end bytes i = (i ≤ i-end) × (length bytes ≡ 128) × (take (n + i) bytes ≡ take n bytes₀ ++ take i piece)
+Inv-loop piece bytes₀ n i₀ i-end bytes i = (i ≤ i-end) × (length bytes ≡ 512) × (take (n + i) bytes ≡ take n bytes₀ ++ take i piece)
 
 abbrev μ-loop : tie.MeasureT-loop
 μ-loop piece bytes₀ n i₀ i-end bytes i = i-end - i
@@ -36,8 +36,8 @@ loop-less : tie.Need-loop-less Inv-loop μ-loop
 loop-less c = omega arith
 
 loop-again : tie.Need-loop-again Inv-loop μ-loop
-loop-again c = 
-  (omega arith, rw length-set (c .before .before .loop .inv .1), one-more (c .before .before .loop .bytes) (now (c .before .before .before .before .args .piece)) (take (c .before .before .before .before .args .text .n) (c .before .before .before .before .args .text .bytes)) (c .before .before .before .before .args .text .n) (c .before .before .loop .i) (omega arith) (omega arith) (c .before .before .loop .inv .2))
+loop-again c =
+    (omega arith, rw length-set (c .before .before .loop .inv .1), one-more (c .before .before .loop .bytes) (now (c .before .before .before .before .args .piece)) (take (c .before .before .before .before .args .text .n) (c .before .before .before .before .args .text .bytes)) (c .before .before .before .before .args .text .n) (c .before .before .loop .i) (omega arith) (omega arith) (c .before .before .loop .inv .2))
 
 add-t15 : tie.Need-add-t15 Inv-loop μ-loop
 add-t15 c = omega arith

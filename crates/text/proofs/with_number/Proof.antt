@@ -20,20 +20,20 @@ slice-aggregate-with : tie.Need-slice-aggregate-with
 slice-aggregate-with c = search needs
 
 with-requires : tie.Need-with-requires
-with-requires c κs = 
-  let most : c .before .decimal .result ≤ 20 = few (c .before .before .before .args .number) _ (omega arith) (c .before .decimal .ensures .1 .0) in
-  let size = c .before .decimal .ensures .0 .1 in
-  (c .before .before .before .pre .0, omega arith)
+with-requires c κs =
+    let most : c .before .decimal .result ≤ 20 = few (c .before .before .before .args .number) _ (omega arith) (c .before .decimal .ensures .1 .0) in
+    let size = c .before .decimal .ensures .0 .1 in
+    (c .before .before .before .pre .0, omega arith)
 
 returns : tie.Need-returns
-returns c = 
-  let most : c .before .before .decimal .result ≤ 20 = few (c .before .before .before .before .args .number) _ (omega arith) (c .before .before .decimal .ensures .1 .0) in
-  let size = c .before .before .decimal .ensures .0 .1 in
-  let text = textOf (c .before .before .before .before .args .text) in (
-    c .with .ensures .0 ∙ ap (λ (d : List ℕ). text ++ d) (c .before .before .decimal .ensures .1 .1 ∙ spelt _ _ 20 most (c .before .before .decimal .ensures .1 .0)),
-    c .with .ensures .1,
-    omega arith,
-  )
+returns c =
+    let most : c .before .before .decimal .result ≤ 20 = few (c .before .before .before .before .args .number) _ (omega arith) (c .before .before .decimal .ensures .1 .0) in
+    let size = c .before .before .decimal .ensures .0 .1 in
+    let text = textOf (c .before .before .before .before .args .text) in (
+      c .with .ensures .0 ∙ ap (λ (d : List ℕ). text ++ d) (c .before .before .decimal .ensures .1 .1 ∙ spelt _ _ 20 most (c .before .before .decimal .ensures .1 .0)),
+      c .with .ensures .1,
+      omega arith,
+    )
 
 pub with-number-spec : {M : Type 1} → statement M
 with-number-spec =
