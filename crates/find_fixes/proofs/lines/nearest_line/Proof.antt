@@ -7,7 +7,7 @@ use native.Mathlib.Omega.{arith}
 use Rattle.text.specs.Text.{ascii}
 use Rattle.near.specs.declared.Held.{Held}
 use Rattle.find_fixes.specs.Lines.{fixLine, nearestLine}
-use Rattle.find_fixes.proofs.Joined.{alone, two}
+use Rattle.text.proofs.Joined.{alone, two}
 use Rattle.find_fixes.proofs.lines.nearest_line.Statement.{statement}
 use Rattle.find_fixes.proofs.lines.nearest_line.Tie as tie
 

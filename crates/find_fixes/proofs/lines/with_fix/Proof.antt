@@ -3,7 +3,7 @@ use borrow.Author.Needs.{needs}
 use Rattle.text.specs.Text.{textOf, ascii, decimal}
 use native.Mathlib.Omega.{arith}
 use Rattle.find_fixes.specs.Lines.{metres, fixLine}
-use Rattle.find_fixes.proofs.Joined.{five}
+use Rattle.text.proofs.Joined.{five}
 use Rattle.find_fixes.proofs.lines.with_fix.Statement.{statement}
 use Rattle.find_fixes.proofs.lines.with_fix.Tie as tie
 

@@ -4,7 +4,7 @@ use Prim.Native.Nat.{_/_, _%_}
 use Rattle.text.specs.Text.{textOf, ascii, decimal}
 use native.Mathlib.Omega.{arith}
 use Rattle.find_fixes.specs.Lines.{thousandths}
-use Rattle.find_fixes.proofs.Joined.{five}
+use Rattle.text.proofs.Joined.{five}
 use Rattle.find_fixes.proofs.lines.with_mm.Statement.{statement}
 use Rattle.find_fixes.proofs.lines.with_mm.Tie as tie
 

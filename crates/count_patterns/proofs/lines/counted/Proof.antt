@@ -1,8 +1,8 @@
--- `count_patterns::counted` meets its contract: no more than six are asked for. Assumes nothing.
+-- `count_patterns::lines::counted` meets its contract: no more than six are asked for. Assumes nothing.
 use Rattle.count_patterns.proofs.Bounds.{counted-table}
 use borrow.Author.Needs.{needs}
-use Rattle.count_patterns.proofs.counted.Statement.{statement}
-use Rattle.count_patterns.proofs.counted.Tie as tie
+use Rattle.count_patterns.proofs.lines.counted.Statement.{statement}
+use Rattle.count_patterns.proofs.lines.counted.Tie as tie
 
 clash-patterns-requires : tie.Need-clash-patterns-requires
 clash-patterns-requires c κs = search needs

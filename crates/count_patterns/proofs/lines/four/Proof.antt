@@ -1,9 +1,9 @@
--- `count_patterns::four` meets its contract: no count is above 2^15 (`leaving-le`). Assumes nothing.
+-- `count_patterns::lines::four` meets its contract: no count is above 2^15 (`leaving-le`). Assumes nothing.
 use native.Mathlib.Omega.{arith}
 use Rattle.count_patterns.proofs.Bounds.{leaving-le, four-in-table}
 use borrow.Author.Needs.{needs}
-use Rattle.count_patterns.proofs.four.Statement.{statement}
-use Rattle.count_patterns.proofs.four.Tie as tie
+use Rattle.count_patterns.proofs.lines.four.Statement.{statement}
+use Rattle.count_patterns.proofs.lines.four.Tie as tie
 
 element-copy-out-result : tie.Need-element-copy-out-result
 element-copy-out-result c = search needs
