@@ -15,10 +15,13 @@ mod lines;
 ghost use Prim.Native.Nat.{_≤_};
 ghost use mathlib.Core.Path.{_≡_};
 ghost use mathlib.Core.Bool.{cond};
+ghost use mathlib.Core.List.{List, []};
 ghost use lib.Dec.{eqb};
+ghost use lib.Ieee.{Float};
 ghost use lib.ListN.{length};
 ghost use Rattle.near.specs.Near.{nearestAnswer};
 ghost use Rattle.near.specs.Parts.{nearestIn, joined};
+ghost use Rattle.find_fixes.specs.Blocks as blocks;
 use decimals::Number;
 use decimals::number_at;
 use geo::Geodetic;
@@ -119,7 +122,7 @@ fn query_refusal(point: Vec3, radius: f64) -> u32 {
 
 // The fix that is held as `near` has it.
 fn held(best: Best) -> Held
-    ensures { λ r. ⌜ r ≡ record { found = best .found; place = best .place; distance = best .distance } ⌝ }
+    ensures { λ r. ⌜ r ≡ blocks.heldIn best ⌝ }
 {
     Held {
         found: best.found,
@@ -128,11 +131,23 @@ fn held(best: Best) -> Held
     }
 }
 
-// The nearest so far, once a block is searched whose first record is at place `base`: `near` joins the two.
+// Nothing is found before the first block.
+fn none_yet() -> Best
+    ensures { λ r. ⌜ ((point : List Float) → blocks.Searched [] point 0 r) × (r .refusal ≡ 0) ⌝ }
+{
+    Best {
+        found: false,
+        place: u64::MAX,
+        distance: 0.0,
+        refusal: 0,
+    }
+}
+
+// The nearest so far, once a block is searched whose first record is at place `base`: `near` joins the two. If what is
+// held is the nearest of the bytes before the block, it is then that of the bytes up to its end.
 fn with_block(block: &[u8], base: u64, point: Vec3, best: Best) -> Best
-    ensures nearest { λ r. ⌜ record { found = r .found; place = r .place; distance = r .distance }
-        ≡ joined (record { found = best .found; place = best .place; distance = best .distance }) base
-        (nearestIn (now (block .entry)) point) ⌝ }
+    ensures nearest { λ r. ⌜ blocks.heldIn r ≡ joined (blocks.heldIn best) base (nearestIn (now (block .entry)) point) ⌝ }
+    ensures whole { λ r. ⌜ blocks.GoesOn (now (block .entry)) point base best r ⌝ }
     ensures refusal { λ r. ⌜ r .refusal
         ≡ cond (eqb (nearestAnswer (now (block .entry)) point) 0) (best .refusal)
         (nearestAnswer (now (block .entry)) point) ⌝ }
@@ -189,12 +204,7 @@ fn search_block(fd: i32, base: u64, query: Query, best: Best) -> Turn {
 fn search(fd: i32, query: Query) -> Best {
     let mut turns = u64::MAX;
     let mut base = 0u64;
-    let mut best = Best {
-        found: false,
-        place: 0,
-        distance: 0.0,
-        refusal: 0,
-    };
+    let mut best = none_yet();
     while turns > 0 {
         let searched = search_block(fd, base, query, best);
         let next = searched.best;

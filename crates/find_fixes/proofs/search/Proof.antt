@@ -1,4 +1,4 @@
--- `find_fixes::search` ends: its turns are counted down. Assumes nothing.
+-- `find_fixes::search` meets its contract. Its turns are counted down. Assumes nothing.
 use borrow.Author.Needs.{needs}
 use Prim.Native.Nat.{_≤_}
 use native.Mathlib.Omega.{arith}
@@ -10,6 +10,9 @@ Inv-loop fd query turns₀ base₀ best₀ turns base best = turns ≤ 184467440
 
 abbrev μ-loop : tie.MeasureT-loop
 μ-loop fd query turns₀ base₀ best₀ turns base best = turns
+
+none-yet-requires : tie.Need-none-yet-requires Inv-loop μ-loop
+none-yet-requires c κs = search needs
 
 loop-holds : tie.Need-loop-holds Inv-loop μ-loop
 loop-holds c = omega arith
@@ -41,6 +44,7 @@ search-spec =
     (tie.spec
     Inv-loop
     μ-loop
+    none-yet-requires
     loop-holds
     search-block-requires
     returns
