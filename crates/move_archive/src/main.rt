@@ -8,6 +8,9 @@
 // standard error with its place, from 0, and its number, and then nothing is written. Otherwise the number of records
 // and the bytes before and after are said there.
 ghost use Prim.Native.Nat.{_≤_};
+ghost use mathlib.Core.Path.{_≡_};
+ghost use lib.ListN.{length};
+ghost use Rattle.move_archive.specs.Moved.{newOf, oldOf};
 use libc::STDERR_FILENO;
 use libc::STDOUT_FILENO;
 
@@ -35,6 +38,17 @@ struct Outcome {
     whole: bool,
 }
 
+// A record in the archive's form, and one in the old form, with the number that it gets: zeros where it is turned away.
+struct New {
+    refusal: u32,
+    bytes: [u8; 152],
+}
+
+struct Old {
+    refusal: u32,
+    bytes: [u8; 176],
+}
+
 fn print(text: &[u8]) {
     io::write_all(STDERR_FILENO, text);
 }
@@ -56,9 +70,34 @@ fn shown(out: &[u8], asked: bool) -> bool {
 }
 
 // A record, moved to the archive's form.
+fn to_new(bytes: &[u8]) -> New
+    ensures { λ r. ⌜ (r ≡ newOf (now (bytes .entry))) × (152 ≡ length (r .bytes)) ⌝ }
+{
+    let mut new = [0u8; 152];
+    let refusal = archive::to_archive(bytes, &mut new);
+    New {
+        refusal,
+        bytes: new,
+    }
+}
+
+// A record, moved back.
+fn to_old(bytes: &[u8]) -> Old
+    ensures { λ r. ⌜ (r ≡ oldOf (now (bytes .entry))) × (176 ≡ length (r .bytes)) ⌝ }
+{
+    let mut old = [0u8; 176];
+    let refusal = archive::from_archive(bytes, &mut old);
+    Old {
+        refusal,
+        bytes: old,
+    }
+}
+
+// Writes a record in the archive's form, if that is asked.
 fn there(bytes: &[u8], write: bool) -> Step {
-    let mut out = [0u8; 152];
-    let refusal = archive::to_archive(bytes, &mut out);
+    let moved = to_new(bytes);
+    let refusal = moved.refusal;
+    let out = moved.bytes;
     let written = shown(&out, write && refusal == 0);
     Step {
         ended: bytes.len() == 0,
@@ -67,10 +106,11 @@ fn there(bytes: &[u8], write: bool) -> Step {
     }
 }
 
-// A record, moved back.
+// Writes a record that is moved back, if that is asked.
 fn back(bytes: &[u8], write: bool) -> Step {
-    let mut out = [0u8; 176];
-    let refusal = archive::from_archive(bytes, &mut out);
+    let moved = to_old(bytes);
+    let refusal = moved.refusal;
+    let out = moved.bytes;
     let written = shown(&out, write && refusal == 0);
     Step {
         ended: bytes.len() == 0,
