@@ -1,7 +1,7 @@
 -- The records of a file: that each place has one, and that all of them are readable or one is not. Assumes nothing.
 use Prim.Native.Nat.{ℕ, zero, suc, _+_, _*_, _<_}
 use mathlib.Core.Path.{_≡_, refl, sym, ap, _∙_}
-use mathlib.Core.Bool.{Bool, true, false}
+use mathlib.Core.Bool.{Bool, true, false, _&&_, false≢true}
 use mathlib.Core.List.{List}
 use mathlib.Core.Logic.{⊎-elim}
 use native.Mathlib.Omega.{arith}
@@ -47,3 +47,16 @@ module _ (file : List ℕ) where
       go : (b : Bool) → readableTo file n ≡ b → b ≡ false
       go true q = sym (each n q k h) ∙ e
       go false q = refl
+
+  -- where not all are, one is not
+  pub some-is-not : (n : ℕ) → readableTo file n ≡ false → (k : ℕ) × (k < n) × (readable file k ≡ false)
+  unfolding readableTo
+  some-is-not zero e = absurd (false≢true (sym e))
+  some-is-not (suc n) e = go (readableTo file n) (readable file n) refl refl e (some-is-not n)
+    where
+      go : (a b : Bool) → readableTo file n ≡ a → readable file n ≡ b → (a && b) ≡ false
+          → (readableTo file n ≡ false → (k : ℕ) × (k < n) × (readable file k ≡ false))
+          → (k : ℕ) × (k < suc n) × (readable file k ≡ false)
+      go true true p q z before = absurd (false≢true (sym z))
+      go true false p q z before = (n, omega arith, q)
+      go false b p q z before = let t = before p in (t .0, (let l = t .1 in omega arith), t .2)

@@ -2,6 +2,7 @@
 -- Statements only: proofs/ proves each.
 use Prim.Native.Nat.{ℕ, _*_, _^_, _<_, _≤_}
 use mathlib.Core.Path.{_≡_}
+use mathlib.Core.Logic.{_↔_}
 use mathlib.Core.Bool.{true, false, not}
 use mathlib.Core.List.{List}
 use lib.Dec.{T}
@@ -47,6 +48,13 @@ pub record Sound (file : List ℕ) : Type 0 where
   pub whole : Whole file
   pub read : (k : ℕ) → k < records file → Readable file k
 
+-- whole records, one of which it does not take apart
+pub record Malformed (file : List ℕ) : Type 0 where
+  pub whole : Whole file
+  pub place : ℕ
+  pub below : place < records file
+  pub unread : Readable file place → ⊥
+
 -- "finite and within 10^8 in size"
 pub record GoodSize (x : Float) : Type 0 where
   pub finite : isFinite x ≡ true
@@ -77,31 +85,32 @@ DistanceMayBeInfinite =
 
 -- ---- what is turned away, and in which order
 
+-- Each number is given exactly where its case is, and the cases are all there are.
 pub record WithinAnswered (file : List ℕ) (point : List Float) (radius : Float) (places : List ℕ) : Type 0 where
   -- "A buffer with fewer entries than the file's length divided by 176, rounded down, gets 14, tested first."
-  pub short : length places < records file → withinAnswer file point radius places ≡ shortOutput
+  pub short : (withinAnswer file point radius places ≡ shortOutput) ↔ (length places < records file)
   pub torn
-      : records file ≤ length places → (Whole file → ⊥) → withinAnswer file point radius places ≡ tornFile
+      : (withinAnswer file point radius places ≡ tornFile) ↔ ((records file ≤ length places) × (Whole file → ⊥))
   pub malformed
-      : records file ≤ length places → Whole file → (k : ℕ) → k < records file → (Readable file k → ⊥)
-      → withinAnswer file point radius places ≡ malformedRecord
+      : (withinAnswer file point radius places ≡ malformedRecord)
+      ↔ ((records file ≤ length places) × Malformed file)
   -- "22 bad query, tested after the whole file is read"
   pub bad
-      : records file ≤ length places → Sound file → (GoodQuery point radius → ⊥)
-      → withinAnswer file point radius places ≡ badQuery
+      : (withinAnswer file point radius places ≡ badQuery)
+      ↔ ((records file ≤ length places) × (Sound file × (GoodQuery point radius → ⊥)))
   pub answered
-      : records file ≤ length places → Sound file → GoodQuery point radius → withinAnswer file point radius places ≡ 0
+      : (withinAnswer file point radius places ≡ 0)
+      ↔ ((records file ≤ length places) × (Sound file × GoodQuery point radius))
 
 abbrev pub WithinAnswers : Type 0
 WithinAnswers =
     (file : List ℕ) (point : List Float) (radius : Float) (places : List ℕ) → WithinAnswered file point radius places
 
 pub record NearestAnswered (file : List ℕ) (point : List Float) : Type 0 where
-  pub torn : (Whole file → ⊥) → nearestAnswer file point ≡ tornFile
-  pub malformed
-      : Whole file → (k : ℕ) → k < records file → (Readable file k → ⊥) → nearestAnswer file point ≡ malformedRecord
-  pub bad : Sound file → (GoodPoint point → ⊥) → nearestAnswer file point ≡ badQuery
-  pub answered : Sound file → GoodPoint point → nearestAnswer file point ≡ 0
+  pub torn : (nearestAnswer file point ≡ tornFile) ↔ (Whole file → ⊥)
+  pub malformed : (nearestAnswer file point ≡ malformedRecord) ↔ Malformed file
+  pub bad : (nearestAnswer file point ≡ badQuery) ↔ (Sound file × (GoodPoint point → ⊥))
+  pub answered : (nearestAnswer file point ≡ 0) ↔ (Sound file × GoodPoint point)
 
 abbrev pub NearestAnswers : Type 0
 NearestAnswers = (file : List ℕ) (point : List Float) → NearestAnswered file point
