@@ -4,7 +4,8 @@
 //
 // Sine and cosine together: one reduction and one call of each kernel for both.
 ghost use mathlib.Core.Path.{_≡_};
-ghost use Rattle.libm.specs.Trig.{sincos};
+ghost use mathlib.Core.List.{[], _∷_};
+ghost use Rattle.libm.specs.Trig.{sin, cos, sincos};
 use crate::kernels::k_cos;
 use crate::kernels::k_sin;
 use crate::rem_pio2::LIMIT;
@@ -14,15 +15,16 @@ use crate::words::high;
 use crate::words::signed;
 use crate::words::switch;
 
-// The sine and the cosine of x; not-a-numbers beyond ±7.
-pub fn sincos(x: f64) -> SinCos
-    ensures { λ r. ⌜ r ≡ sincos x ⌝ }
+// The sine of x, then the cosine, into lent memory; not-a-numbers beyond ±7.
+pub fn sincos_into(x: f64, pair: &mut [f64; 2])
+    ensures { λ _. ⌜ now (pair .exit) ≡ sin x ∷ cos x ∷ [] ⌝ }
 {
     // |x| up to pi/4
     if high(x) <= 0x3fe9_21fb {
         let s = k_sin(x, 0.0, 0);
         let c = k_cos(x, 0.0);
-        return SinCos { sin: s, cos: c };
+        *pair = [s, c];
+        return;
     }
     let t = binary64::abs(x);
     if t <= LIMIT {
@@ -32,13 +34,20 @@ pub fn sincos(x: f64) -> SinCos
         let c = k_cos(y.y0, y.y1);
         let sine = signed(x, switch(n, s, c, -s, -c));
         let cosine = switch(n, c, -s, -c, s);
-        return SinCos {
-            sin: sine,
-            cos: cosine,
-        };
+        *pair = [sine, cosine];
+        return;
     }
+    *pair = [0.0 / 0.0, 0.0 / 0.0];
+}
+
+// The sine and the cosine of x.
+pub fn sincos(x: f64) -> SinCos
+    ensures { λ r. ⌜ r ≡ sincos x ⌝ }
+{
+    let mut pair = [0.0; 2];
+    sincos_into(x, &mut pair);
     SinCos {
-        sin: 0.0 / 0.0,
-        cos: 0.0 / 0.0,
+        sin: pair[0],
+        cos: pair[1],
     }
 }

@@ -16,6 +16,7 @@ mod words;
 
 pub use atan::atan2;
 pub use both::sincos;
+pub use both::sincos_into;
 pub use hypotenuse::hypot;
 pub use trig::SinCos;
 pub use trig::cos;

@@ -55,8 +55,7 @@ pub extern "C" fn mlat_sincos(x: f64, pair: &mut [f64; 2])
     ensures value { λ _. ⌜ now (pair .exit) ≡ sin x ∷ cos x ∷ [] ⌝ }
     ensures meaning { λ _. ⌜ AreBounded x (now (pair .exit)) ⌝ }
 {
-    let both = libm::sincos(x);
-    *pair = [both.sin, both.cos];
+    libm::sincos_into(x, &mut *pair);
 }
 
 // The angle of (x, y) from the x axis, by the steps of fdlibm 5.3.
