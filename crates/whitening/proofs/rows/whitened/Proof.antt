@@ -1,6 +1,5 @@
 -- `whitening::rows::whitened` meets its contract. The residuals and then the slopes, joined (`residuals-over`, `whitened-joined`). Assumes
 -- nothing.
-use borrow.Author.Needs.{needs}
 use mathlib.Core.Path.{refl, ap}
 use native.Mathlib.Omega.{arith}
 use denote.Ref.{now}
