@@ -79,12 +79,14 @@ returns c = λ at held.
     ∙ ap (λ (g : Given). reply (lent s at g)) (given .given .ensures)
 
 -- what is lent is the problem's
-answer-is : (c : tie.After-solve-lent) → c .solve-lent .result ≡ asAnswer (solveProblem (c .before .before .before .before .before .before .before .before .before .problem-of .result))
+answer-is
+    : (c : tie.After-solve-lent) → c .solve-lent .result
+    ≡ asAnswer (solveProblem (c .before .before .before .before .before .before .before .before .before .problem-of .result))
 answer-is c =
     let p = c .before .before .before .before .before .before .before .before .before .problem-of .result in
-    c .solve-lent .ensures ∙ ap asAnswer (of-problem p _ (toZ w64 (ofZ w64 (p .«reference_ps»))) refl (toZ-ofZ w64 (p .«reference_ps») (record {
-      sfits = c .before .before .before .before .before .before .before .before .struct-told .given .1 .1 .1 .1 .1 .1 .1 .1 .0 .1;
-    })))
+    let told = c .before .before .before .before .before .before .before .before .struct-told .given in
+    let same = toZ-ofZ w64 (p .«reference_ps») (record { sfits = told .1 .1 .1 .1 .1 .1 .1 .1 .0 .1 }) in
+    c .solve-lent .ensures ∙ ap asAnswer (of-problem p _ (toZ w64 (ofZ w64 (p .«reference_ps»))) refl same)
 
 returns-2 : tie.Need-returns-2
 returns-2 c = λ at held.
