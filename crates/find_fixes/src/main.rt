@@ -146,7 +146,8 @@ fn none_yet() -> Best
 // The nearest so far, once a block is searched whose first record is at place `base`: `near` joins the two. If what is
 // held is the nearest of the bytes before the block, it is then that of the bytes up to its end.
 fn with_block(block: &[u8], base: u64, point: Vec3, best: Best) -> Best
-    ensures nearest { λ r. ⌜ blocks.heldIn r ≡ joined (blocks.heldIn best) base (nearestIn (now (block .entry)) point) ⌝ }
+    ensures nearest { λ r. ⌜ blocks.heldIn r
+        ≡ joined (blocks.heldIn best) base (nearestIn (now (block .entry)) point) ⌝ }
     ensures whole { λ r. ⌜ blocks.GoesOn (now (block .entry)) point base best r ⌝ }
     ensures refusal { λ r. ⌜ r .refusal
         ≡ cond (eqb (nearestAnswer (now (block .entry)) point) 0) (best .refusal)

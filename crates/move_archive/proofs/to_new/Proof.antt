@@ -14,7 +14,11 @@ to-archive-requires : tie.Need-to-archive-requires
 to-archive-requires c κs = search needs
 
 returns : tie.Need-returns
-returns c = (ap₂ (λ (a : ℕ) (b : List ℕ). record { refusal = a; bytes = b }) (c .before .to-archive .ensures .0) (c .before .to-archive .ensures .1), search needs)
+returns c = (
+  ap₂ (λ (a : ℕ) (b : List ℕ). record { refusal = a; bytes = b }) (c .before .to-archive .ensures .0)
+      (c .before .to-archive .ensures .1),
+  search needs,
+)
 
 pub to-new-spec : {M : Type 1} → statement M
 to-new-spec =

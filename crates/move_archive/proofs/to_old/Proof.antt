@@ -14,7 +14,11 @@ from-archive-requires : tie.Need-from-archive-requires
 from-archive-requires c κs = search needs
 
 returns : tie.Need-returns
-returns c = (ap₂ (λ (a : ℕ) (b : List ℕ). record { refusal = a; bytes = b }) (c .before .from-archive .ensures .0) (c .before .from-archive .ensures .1), search needs)
+returns c = (
+  ap₂ (λ (a : ℕ) (b : List ℕ). record { refusal = a; bytes = b }) (c .before .from-archive .ensures .0)
+      (c .before .from-archive .ensures .1),
+  search needs,
+)
 
 pub to-old-spec : {M : Type 1} → statement M
 to-old-spec =

@@ -36,14 +36,26 @@ loop-less : tie.Need-loop-less Inv-loop μ-loop
 loop-less c = omega arith
 
 loop-again : tie.Need-loop-again Inv-loop μ-loop
-loop-again c =
-    (omega arith, rw length-set (c .before .before .loop .inv .1), one-more (c .before .before .loop .bytes) (now (c .before .before .before .before .args .piece)) (take (c .before .before .before .before .args .text .n) (c .before .before .before .before .args .text .bytes)) (c .before .before .before .before .args .text .n) (c .before .before .loop .i) (omega arith) (omega arith) (c .before .before .loop .inv .2))
+loop-again c = (
+  omega arith,
+  rw length-set (c .before .before .loop .inv .1),
+  one-more (c .before .before .loop .bytes)
+      (now (c .before .before .before .before .args .piece))
+      (take (c .before .before .before .before .args .text .n) (c .before .before .before .before .args .text .bytes))
+      (c .before .before .before .before .args .text .n) (c .before .before .loop .i) (omega arith) (omega arith)
+      (c .before .before .loop .inv .2),
+)
 
 add-t15 : tie.Need-add-t15 Inv-loop μ-loop
 add-t15 c = omega arith
 
 returns : tie.Need-returns Inv-loop μ-loop
-returns c = (all (c .before .loop .bytes) (now (c .before .before .before .args .piece)) (textOf (c .before .before .before .args .text)) (c .before .before .before .args .text .n) (c .before .loop .i) (omega arith) (c .before .loop .inv .2), c .before .loop .inv .1, refl)
+returns c = (
+  all (c .before .loop .bytes) (now (c .before .before .before .args .piece)) (textOf (c .before .before .before .args .text))
+      (c .before .before .before .args .text .n) (c .before .loop .i) (omega arith) (c .before .loop .inv .2),
+  c .before .loop .inv .1,
+  refl,
+)
 
 pub with-spec : {M : Type 1} → statement M
 with-spec =

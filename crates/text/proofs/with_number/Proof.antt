@@ -27,10 +27,12 @@ with-requires c κs =
 
 returns : tie.Need-returns
 returns c =
-    let most : c .before .before .decimal .result ≤ 20 = few (c .before .before .before .before .args .number) _ (omega arith) (c .before .before .decimal .ensures .1 .0) in
+    let most : c .before .before .decimal .result ≤ 20 = few (c .before .before .before .before .args .number) _ (omega arith)
+    (c .before .before .decimal .ensures .1 .0) in
     let size = c .before .before .decimal .ensures .0 .1 in
     let text = textOf (c .before .before .before .before .args .text) in (
-      c .with .ensures .0 ∙ ap (λ (d : List ℕ). text ++ d) (c .before .before .decimal .ensures .1 .1 ∙ spelt _ _ 20 most (c .before .before .decimal .ensures .1 .0)),
+      c .with .ensures .0 ∙ ap (λ (d : List ℕ). text ++ d)
+          (c .before .before .decimal .ensures .1 .1 ∙ spelt _ _ 20 most (c .before .before .decimal .ensures .1 .0)),
       c .with .ensures .1,
       omega arith,
     )

@@ -74,11 +74,18 @@ returns c =
     let n = c .before .before .before .before .before .before .before .before .before .before .before .before .before .before .args .n in
     let all = c .before .before .before .before .before .before .before .before .before .before .before .before .before .before .args .all in
     let counts = c .before .before .before .before .before .before .before .before .before .before .before .before .before .counted .result in (
-      alone _ _ (pieces n all counts) (c .before .before .before .before .before .before .before .before .before .before .before .before .empty .ensures .0)
-          (seven (textOf (c .before .before .before .before .before .before .before .before .before .before .before .before .empty .result)) _ _ _ _ _ _ _ (ascii "  ") (column n) (ascii "  ") (column all) (columns counts) (ascii "  ") (share n)
-          (c .before .before .before .before .before .before .before .before .before .before .with .ensures .0) (c .before .before .before .before .before .before .before .before .before .with-column .ensures .0) (c .before .before .before .before .before .before .before .with2 .ensures .0) (c .before .before .before .before .before .before .with-column2 .ensures .0)
+      alone _ _ (pieces n all counts)
+          (c .before .before .before .before .before .before .before .before .before .before .before .before .empty .ensures .0)
+          (seven (textOf (c .before .before .before .before .before .before .before .before .before .before .before .before .empty .result)) _ _ _ _
+          _ _ _ (ascii "  ") (column n) (ascii "  ") (column all) (columns counts) (ascii "  ") (share n)
+          (c .before .before .before .before .before .before .before .before .before .before .with .ensures .0)
+          (c .before .before .before .before .before .before .before .before .before .with-column .ensures .0)
+          (c .before .before .before .before .before .before .before .with2 .ensures .0)
+          (c .before .before .before .before .before .before .with-column2 .ensures .0)
           (c .before .before .before .before .with-columns .ensures .0) (c .before .before .with3 .ensures .0) (c .with-share .ensures .0))
-          ∙ ap₂ (pieces n) (c .before .before .before .before .before .before .before .before .before .before .before .before .before .before .pre .1) (c .before .before .before .before .before .before .before .before .before .before .before .before .before .counted .ensures),
+          ∙ ap₂ (pieces n)
+          (c .before .before .before .before .before .before .before .before .before .before .before .before .before .before .pre .1)
+          (c .before .before .before .before .before .before .before .before .before .before .before .before .before .counted .ensures),
       c .with-share .ensures .1,
       omega (
         arith,

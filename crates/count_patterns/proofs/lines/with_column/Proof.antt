@@ -16,7 +16,8 @@ with-number-requires c κs = search needs
 returns : tie.Need-returns
 unfolding column
 returns c = (
-  two-more (textOf (c .before .before .args .text)) _ _ (spaces (c .before .before .args .x)) (decimal (c .before .before .args .x)) (c .before .with-spaces .ensures .0)
+  two-more (textOf (c .before .before .args .text)) _ _ (spaces (c .before .before .args .x)) (decimal (c .before .before .args .x))
+      (c .before .with-spaces .ensures .0)
       (c .with-number .ensures .0),
   c .with-number .ensures .1,
   omega arith,

@@ -54,11 +54,16 @@ with-column-requires-7 c κs = search needs
 returns : tie.Need-returns
 unfolding columns
 returns c =
-    let counts = now (c .before .before .before .before .before .before .before .before .before .before .before .before .before .before .args .counts) in (
-      seven (textOf (c .before .before .before .before .before .before .before .before .before .before .before .before .before .before .args .text)) _ _ _ _ _ _ _ (column (getD counts 0 0)) (column (getD counts 1 0)) (column (getD counts 2 0))
+    let counts = now
+    (c .before .before .before .before .before .before .before .before .before .before .before .before .before .before .args .counts) in (
+      seven (textOf (c .before .before .before .before .before .before .before .before .before .before .before .before .before .before .args .text))
+          _ _ _ _ _ _ _ (column (getD counts 0 0)) (column (getD counts 1 0)) (column (getD counts 2 0))
           (column (getD counts 3 0)) (column (getD counts 4 0)) (column (getD counts 5 0)) (column (getD counts 6 0))
-          (c .before .before .before .before .before .before .before .before .before .before .before .before .with-column .ensures .0) (c .before .before .before .before .before .before .before .before .before .before .with-column2 .ensures .0) (c .before .before .before .before .before .before .before .before .with-column3 .ensures .0)
-          (c .before .before .before .before .before .before .with-column4 .ensures .0) (c .before .before .before .before .with-column5 .ensures .0) (c .before .before .with-column6 .ensures .0)
+          (c .before .before .before .before .before .before .before .before .before .before .before .before .with-column .ensures .0)
+          (c .before .before .before .before .before .before .before .before .before .before .with-column2 .ensures .0)
+          (c .before .before .before .before .before .before .before .before .with-column3 .ensures .0)
+          (c .before .before .before .before .before .before .with-column4 .ensures .0)
+          (c .before .before .before .before .with-column5 .ensures .0) (c .before .before .with-column6 .ensures .0)
           (c .with-column7 .ensures .0),
       c .with-column7 .ensures .1,
       omega arith,

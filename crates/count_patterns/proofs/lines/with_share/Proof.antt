@@ -1,4 +1,5 @@
--- `count_patterns::lines::with_share` meets its contract. There is a pattern, and no count is above 2^15; the pieces come one after the other (`four`). Assumes nothing.
+-- `count_patterns::lines::with_share` meets its contract. There is a pattern, and no count is above 2^15; the pieces come one after the other
+-- (`four`). Assumes nothing.
 use borrow.Author.Needs.{needs}
 use Prim.Native.Nat.{ℕ, _+_, _*_, _/_, _%_, _^_}
 use mathlib.Core.Path.{_≡_, sym, ap, ap₂, _∙_}
@@ -62,9 +63,12 @@ unfolding share
 returns c =
     let all = c .before .before .before .before .before .before .before .args .all in
     let t = (c .before .before .before .before .before .before .four .result * 1000 + all / 2) / all in (
-      four (textOf (c .before .before .before .before .before .before .before .args .text)) _ _ _ _ (column (t / 10)) (ascii ".") (decimal (t % 10)) (ascii " %\n") (c .before .before .before .before .before .with-column .ensures .0)
+      four (textOf (c .before .before .before .before .before .before .before .args .text)) _ _ _ _ (column (t / 10)) (ascii ".") (decimal (t % 10))
+          (ascii " %\n") (c .before .before .before .before .before .with-column .ensures .0)
           (c .before .before .before .with .ensures .0) (c .before .before .with-number .ensures .0) (c .with2 .ensures .0)
-          ∙ ap (λ (t : ℕ). textOf (c .before .before .before .before .before .before .before .args .text) ++ pieces t) (counted (c .before .before .before .before .before .before .before .args .n) _ all (c .before .before .before .before .before .before .four .ensures) (c .before .before .before .before .before .before .before .pre .2)),
+          ∙ ap (λ (t : ℕ). textOf (c .before .before .before .before .before .before .before .args .text) ++ pieces t)
+          (counted (c .before .before .before .before .before .before .before .args .n) _ all
+          (c .before .before .before .before .before .before .four .ensures) (c .before .before .before .before .before .before .before .pre .2)),
       c .with2 .ensures .1,
       omega arith,
     )

@@ -14,7 +14,12 @@ with-requires c κs = search needs
 
 returns : tie.Need-returns
 unfolding spaces
-returns c = (rw (lt-ltb (c .before .before .before .args .x) 10 (c .before .before .if1 .taken)) (c .with .ensures .0), c .with .ensures .1, omega arith)
+returns c = (
+  rw (lt-ltb (c .before .before .before .args .x) 10 (c .before .before .if1 .taken)) (c .with .ensures .0),
+  c .with .ensures .1,
+  omega
+      arith,
+)
 
 slice-aggregate-with-2 : tie.Need-slice-aggregate-with-2
 slice-aggregate-with-2 c = search needs
@@ -24,8 +29,15 @@ with-requires-2 c κs = search needs
 
 returns-2 : tie.Need-returns-2
 unfolding spaces
-returns-2 c =
-    (rw (le-ltb (c .before .before .before .before .args .x) 10 (c .before .before .before .if1 .left), lt-ltb (c .before .before .before .before .args .x) 100 (c .before .before .if2 .taken)) (c .with2 .ensures .0), c .with2 .ensures .1, omega arith)
+returns-2 c = (
+  rw (
+    le-ltb (c .before .before .before .before .args .x) 10 (c .before .before .before .if1 .left),
+    lt-ltb
+        (c .before .before .before .before .args .x) 100 (c .before .before .if2 .taken),
+  ) (c .with2 .ensures .0),
+  c .with2 .ensures .1,
+  omega arith,
+)
 
 slice-aggregate-with-3 : tie.Need-slice-aggregate-with-3
 slice-aggregate-with-3 c = search needs
@@ -36,7 +48,13 @@ with-requires-3 c κs = search needs
 returns-3 : tie.Need-returns-3
 unfolding spaces
 returns-3 c = (
-  rw (le-ltb (c .before .before .before .before .before .args .x) 10 (c .before .before .before .before .if1 .left), le-ltb (c .before .before .before .before .before .args .x) 100 (c .before .before .before .if2 .left), lt-ltb (c .before .before .before .before .before .args .x) 1000 (c .before .before .if3 .taken))
+  rw (
+    le-ltb (c .before .before .before .before .before .args .x) 10 (c .before .before .before .before .if1 .left),
+    le-ltb
+        (c .before .before .before .before .before .args .x) 100 (c .before .before .before .if2 .left),
+    lt-ltb
+        (c .before .before .before .before .before .args .x) 1000 (c .before .before .if3 .taken),
+  )
       (c .with3 .ensures .0),
   c .with3 .ensures .1,
   omega arith,

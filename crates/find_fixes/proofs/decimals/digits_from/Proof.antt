@@ -1,4 +1,5 @@
--- `find_fixes::decimals::digits_from` meets its contract. The invariant: the digits so far and the bytes from i on come to what all bytes do. Assumes nothing.
+-- `find_fixes::decimals::digits_from` meets its contract. The invariant: the digits so far and the bytes from i on come to what all bytes do.
+-- Assumes nothing.
 use borrow.Author.Needs.{needs}
 use Prim.Native.Nat.{_-_, _≤_}
 use mathlib.Core.Path.{_≡_, refl, sym, ap, _∙_}
@@ -33,7 +34,11 @@ loop-less : tie.Need-loop-less Inv-loop μ-loop
 loop-less c = search needs
 
 loop-again : tie.Need-loop-again Inv-loop μ-loop
-loop-again c = (omega arith, further (now (c .before .before .before .before .before .args .text)) (c .before .before .before .loop .i) (c .before .before .before .loop .d) (c .next .result) _ (omega arith) (c .next .ensures) (c .before .before .before .loop .inv .1))
+loop-again c = (
+  omega arith,
+  further (now (c .before .before .before .before .before .args .text)) (c .before .before .before .loop .i)
+      (c .before .before .before .loop .d) (c .next .result) _ (omega arith) (c .next .ensures) (c .before .before .before .loop .inv .1),
+)
 
 returns : tie.Need-returns Inv-loop μ-loop
 returns c = ended (now (c .before .before .before .args .text)) (c .before .loop .i) (c .before .loop .d) _ (omega arith) (c .before .loop .inv .1)

@@ -17,7 +17,11 @@ spoilt-requires c κs = search needs
 
 returns-2 : tie.Need-returns-2
 unfolding next
-returns-2 c = rw (ne-eqb (c .before .before .before .args .byte) 46 (c .before .before .if1 .left), lt-ltb (c .before .before .before .args .byte) 48 (c .before .if2 .taken)) (c .spoilt .ensures)
+returns-2 c = rw (
+  ne-eqb (c .before .before .before .args .byte) 46 (c .before .before .if1 .left),
+  lt-ltb (c .before .before .before .args .byte)
+      48 (c .before .if2 .taken),
+) (c .spoilt .ensures)
 
 spoilt-requires-2 : tie.Need-spoilt-requires-2
 spoilt-requires-2 c κs = search needs
@@ -25,7 +29,13 @@ spoilt-requires-2 c κs = search needs
 returns-3 : tie.Need-returns-3
 unfolding next
 returns-3 c =
-    rw (ne-eqb (c .before .before .before .before .args .byte) 46 (c .before .before .before .if1 .left), le-ltb (c .before .before .before .before .args .byte) 48 (c .before .before .if2 .left), lt-ltb 57 (c .before .before .before .before .args .byte) (c .before .if3 .taken))
+    rw (
+      ne-eqb (c .before .before .before .before .args .byte) 46 (c .before .before .before .if1 .left),
+      le-ltb
+          (c .before .before .before .before .args .byte) 48 (c .before .before .if2 .left),
+      lt-ltb 57 (c .before .before .before .before .args .byte)
+          (c .before .if3 .taken),
+    )
     (c .spoilt2 .ensures)
 
 spoilt-requires-3 : tie.Need-spoilt-requires-3
@@ -49,9 +59,12 @@ returns-5 : tie.Need-returns-5
 unfolding next
 returns-5 c =
     rw (
-      ne-eqb (c .before .before .before .before .before .before .before .before .args .byte) 46 (c .before .before .before .before .before .before .before .if1 .left),
-      le-ltb (c .before .before .before .before .before .before .before .before .args .byte) 48 (c .before .before .before .before .before .before .if2 .left),
-      le-ltb 57 (c .before .before .before .before .before .before .before .before .args .byte) (c .before .before .before .before .before .if3 .left),
+      ne-eqb (c .before .before .before .before .before .before .before .before .args .byte) 46
+          (c .before .before .before .before .before .before .before .if1 .left),
+      le-ltb (c .before .before .before .before .before .before .before .before .args .byte) 48
+          (c .before .before .before .before .before .before .if2 .left),
+      le-ltb 57 (c .before .before .before .before .before .before .before .before .args .byte)
+          (c .before .before .before .before .before .if3 .left),
       lt-leb most (c .before .before .before .before .before .before .before .before .args .d .whole) (c .before .before .before .if4 .left),
       le-leb most (c .before .before .before .before .before .before .before .before .args .d .scale) (c .before .if5 .taken),
     )
@@ -73,11 +86,16 @@ returns-6 : tie.Need-returns-6
 unfolding next
 returns-6 c =
     rw (
-      ne-eqb (c .before .before .before .before .before .before .before .before .before .before .args .byte) 46 (c .before .before .before .before .before .before .before .before .before .if1 .left),
-      le-ltb (c .before .before .before .before .before .before .before .before .before .before .args .byte) 48 (c .before .before .before .before .before .before .before .before .if2 .left),
-      le-ltb 57 (c .before .before .before .before .before .before .before .before .before .before .args .byte) (c .before .before .before .before .before .before .before .if3 .left),
-      lt-leb most (c .before .before .before .before .before .before .before .before .before .before .args .d .whole) (c .before .before .before .before .before .if4 .left),
-      lt-leb most (c .before .before .before .before .before .before .before .before .before .before .args .d .scale) (c .before .before .before .if5 .left),
+      ne-eqb (c .before .before .before .before .before .before .before .before .before .before .args .byte) 46
+          (c .before .before .before .before .before .before .before .before .before .if1 .left),
+      le-ltb (c .before .before .before .before .before .before .before .before .before .before .args .byte) 48
+          (c .before .before .before .before .before .before .before .before .if2 .left),
+      le-ltb 57 (c .before .before .before .before .before .before .before .before .before .before .args .byte)
+          (c .before .before .before .before .before .before .before .if3 .left),
+      lt-leb most (c .before .before .before .before .before .before .before .before .before .before .args .d .whole)
+          (c .before .before .before .before .before .if4 .left),
+      lt-leb most (c .before .before .before .before .before .before .before .before .before .before .args .d .scale)
+          (c .before .before .before .if5 .left),
       c .before .if6 .taken,
     )
 
@@ -85,10 +103,14 @@ returns-7 : tie.Need-returns-7
 unfolding next
 returns-7 c =
     rw (
-      ne-eqb (c .before .before .before .before .before .before .before .before .before .args .byte) 46 (c .before .before .before .before .before .before .before .before .if1 .left),
-      le-ltb (c .before .before .before .before .before .before .before .before .before .args .byte) 48 (c .before .before .before .before .before .before .before .if2 .left),
-      le-ltb 57 (c .before .before .before .before .before .before .before .before .before .args .byte) (c .before .before .before .before .before .before .if3 .left),
-      lt-leb most (c .before .before .before .before .before .before .before .before .before .args .d .whole) (c .before .before .before .before .if4 .left),
+      ne-eqb (c .before .before .before .before .before .before .before .before .before .args .byte) 46
+          (c .before .before .before .before .before .before .before .before .if1 .left),
+      le-ltb (c .before .before .before .before .before .before .before .before .before .args .byte) 48
+          (c .before .before .before .before .before .before .before .if2 .left),
+      le-ltb 57 (c .before .before .before .before .before .before .before .before .before .args .byte)
+          (c .before .before .before .before .before .before .if3 .left),
+      lt-leb most (c .before .before .before .before .before .before .before .before .before .args .d .whole)
+          (c .before .before .before .before .if4 .left),
       lt-leb most (c .before .before .before .before .before .before .before .before .before .args .d .scale) (c .before .before .if5 .left),
       c .if6 .left,
     )

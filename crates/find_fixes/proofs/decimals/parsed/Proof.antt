@@ -34,7 +34,10 @@ value-requires-2 c κs = search needs
 returns-2 : tie.Need-returns-2
 unfolding numberOf
 returns-2 c =
-    rw (ne-eqb (length (now (c .before .before .before .before .before .before .args .text))) 0 (c .before .before .before .before .if1 .left), eq-eqb (getD (now (c .before .before .before .before .before .before .args .text)) 0 0) 45 (c .before .before .if2 .taken))
+    rw (
+      ne-eqb (length (now (c .before .before .before .before .before .before .args .text))) 0 (c .before .before .before .before .if1 .left),
+      eq-eqb (getD (now (c .before .before .before .before .before .before .args .text)) 0 0) 45 (c .before .before .if2 .taken),
+    )
     (c .value2 .ensures ∙ ap (λ (d : Digits). valueOf d true) (c .before .digits-from .ensures))
 
 digits-from-requires-2 : tie.Need-digits-from-requires-2
@@ -46,7 +49,10 @@ value-requires-3 c κs = search needs
 returns-3 : tie.Need-returns-3
 unfolding numberOf
 returns-3 c =
-    rw (ne-eqb (length (now (c .before .before .before .before .before .before .args .text))) 0 (c .before .before .before .before .if1 .left), ne-eqb (getD (now (c .before .before .before .before .before .before .args .text)) 0 0) 45 (c .before .before .if2 .left))
+    rw (
+      ne-eqb (length (now (c .before .before .before .before .before .before .args .text))) 0 (c .before .before .before .before .if1 .left),
+      ne-eqb (getD (now (c .before .before .before .before .before .before .args .text)) 0 0) 45 (c .before .before .if2 .left),
+    )
     (c .value3 .ensures ∙ ap (λ (d : Digits). valueOf d false) (c .before .digits-from2 .ensures))
 
 pub parsed-spec : {M : Type 1} → statement M

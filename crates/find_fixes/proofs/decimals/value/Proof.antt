@@ -26,13 +26,15 @@ returns : tie.Need-returns
 unfolding valueOf
 returns c =
     ap₂ (λ (g : Bool) (v : Float). record { good = g && c .before .before .before .before .args .d .some; value = v }) (sym (c .if1 .taken))
-    (sized _ _ _ _ _ (c .before .before .before .before .args .minus) (c .before .signed .ensures) (c .before .before .before .nearest-u64-to-f64 .ensures) (c .before .before .nearest-u64-to-f642 .ensures))
+    (sized _ _ _ _ _ (c .before .before .before .before .args .minus) (c .before .signed .ensures)
+    (c .before .before .before .nearest-u64-to-f64 .ensures) (c .before .before .nearest-u64-to-f642 .ensures))
 
 returns-2 : tie.Need-returns-2
 unfolding valueOf
 returns-2 c =
     ap₂ (λ (g : Bool) (v : Float). record { good = g && c .before .before .before .before .args .d .some; value = v }) (sym (c .if1 .left))
-    (sized _ _ _ _ _ (c .before .before .before .before .args .minus) (c .before .signed .ensures) (c .before .before .before .nearest-u64-to-f64 .ensures) (c .before .before .nearest-u64-to-f642 .ensures))
+    (sized _ _ _ _ _ (c .before .before .before .before .args .minus) (c .before .signed .ensures)
+    (c .before .before .before .nearest-u64-to-f64 .ensures) (c .before .before .nearest-u64-to-f642 .ensures))
 
 pub value-spec : {M : Type 1} → statement M
 value-spec =

@@ -16,7 +16,8 @@ with-fix-requires c κs = search needs
 
 returns : tie.Need-returns
 returns c = (
-  c .with-fix .ensures .0 ∙ ap (λ (t : List ℕ). t ++ fixLine (c .before .before .args .place) (c .before .before .args .distance)) (c .before .empty .ensures .0),
+  c .with-fix .ensures .0 ∙ ap (λ (t : List ℕ). t ++ fixLine (c .before .before .args .place) (c .before .before .args .distance))
+      (c .before .empty .ensures .0),
   c .with-fix .ensures .1,
   omega arith,
 )

@@ -32,7 +32,8 @@ with-fix-requires c κs = search needs
 returns : tie.Need-returns
 returns c =
     let held = c .before .before .before .before .before .args .held in (
-      two _ _ _ (ascii "nearest: ") (fixLine (held .place) (held .distance)) (c .before .before .before .before .empty .ensures .0) (c .before .with .ensures .0) (c .with-fix .ensures .0)
+      two _ _ _ (ascii "nearest: ") (fixLine (held .place) (held .distance)) (c .before .before .before .before .empty .ensures .0)
+          (c .before .with .ensures .0) (c .with-fix .ensures .0)
           ∙ by held _ (c .before .before .before .if1 .taken),
       c .with-fix .ensures .1,
       omega arith,

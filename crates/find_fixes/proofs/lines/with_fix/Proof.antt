@@ -34,7 +34,11 @@ with-requires-3 c κs = search needs
 returns : tie.Need-returns
 unfolding fixLine
 returns c = (
-  five (textOf (c .before .before .before .before .before .before .before .before .args .text)) _ _ _ _ _ (ascii "place ") (decimal (c .before .before .before .before .before .before .before .before .args .place)) (ascii ", ") (metres (c .before .before .before .before .before .before .before .before .args .distance)) (ascii " m away\n") (c .before .before .before .before .before .before .with .ensures .0) (c .before .before .before .before .before .with-number .ensures .0) (c .before .before .before .with2 .ensures .0)
+  five (textOf (c .before .before .before .before .before .before .before .before .args .text)) _ _ _ _ _ (ascii "place ")
+      (decimal (c .before .before .before .before .before .before .before .before .args .place)) (ascii ", ")
+      (metres (c .before .before .before .before .before .before .before .before .args .distance)) (ascii " m away\n")
+      (c .before .before .before .before .before .before .with .ensures .0) (c .before .before .before .before .before .with-number .ensures .0)
+      (c .before .before .before .with2 .ensures .0)
       (c .before .before .with-metres .ensures .0) (c .with3 .ensures .0),
   c .with3 .ensures .1,
   omega arith,

@@ -17,7 +17,8 @@ returns : tie.Need-returns
 unfolding metres
 returns c = (
   c .with-whole .ensures .0
-      ∙ ap (λ (b : Bool). textOf (c .before .before .args .text) ++ cond b (whole (millimetres (c .before .before .args .metres))) far) (sym (c .before .if1 .taken)),
+      ∙ ap (λ (b : Bool). textOf (c .before .before .args .text) ++ cond b (whole (millimetres (c .before .before .args .metres))) far)
+      (sym (c .before .if1 .taken)),
   c .with-whole .ensures .1,
   omega arith,
 )
@@ -32,7 +33,8 @@ returns-2 : tie.Need-returns-2
 unfolding metres
 returns-2 c = (
   c .with .ensures .0
-      ∙ ap (λ (b : Bool). textOf (c .before .before .before .args .text) ++ cond b (whole (millimetres (c .before .before .before .args .metres))) far) (sym (c .before .before .if1 .left)),
+      ∙ ap (λ (b : Bool). textOf (c .before .before .before .args .text) ++ cond b (whole (millimetres (c .before .before .before .args .metres)))
+      far) (sym (c .before .before .if1 .left)),
   c .with .ensures .1,
   omega arith,
 )

@@ -30,7 +30,9 @@ returns : tie.Need-returns
 unfolding thousandths
 returns c =
     let n = c .before .before .before .before .before .before .args .n in (
-      five (textOf (c .before .before .before .before .before .before .args .text)) _ _ _ _ _ (decimal (n / 1000)) (ascii ".") (decimal (n / 100 % 10)) (decimal (n / 10 % 10)) (decimal (n % 10)) (c .before .before .before .before .before .with-number .ensures .0) (c .before .before .before .with .ensures .0) (c .before .before .with-number2 .ensures .0)
+      five (textOf (c .before .before .before .before .before .before .args .text)) _ _ _ _ _ (decimal (n / 1000)) (ascii ".")
+          (decimal (n / 100 % 10)) (decimal (n / 10 % 10)) (decimal (n % 10)) (c .before .before .before .before .before .with-number .ensures .0)
+          (c .before .before .before .with .ensures .0) (c .before .before .with-number2 .ensures .0)
           (c .before .with-number3 .ensures .0) (c .with-number4 .ensures .0),
       c .with-number4 .ensures .1,
       omega arith,

@@ -22,7 +22,8 @@ returns : tie.Need-returns
 unfolding whole
 returns c = (
   rw (c .before .before .if1 .taken)
-      (c .with-mm .ensures .0 ∙ ap (λ (n : ℕ). textOf (c .before .before .before .args .text) ++ thousandths n) (c .before .truncating-f64-to-u64 .ensures)),
+      (c .with-mm .ensures .0 ∙ ap (λ (n : ℕ). textOf (c .before .before .before .args .text) ++ thousandths n)
+      (c .before .truncating-f64-to-u64 .ensures)),
   c .with-mm .ensures .1,
   omega arith,
 )
