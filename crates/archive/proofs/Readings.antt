@@ -10,7 +10,7 @@ use borrow.Author.Tests.{eq-eqb}
 use Rattle.reader.specs.declared.content.Reading.{Reading}
 use Rattle.reader.specs.Tests.{meetsRules}
 use Rattle.reader.specs.Read.{readOf, contentAt, turnedAway}
-use Rattle.reader.specs.Meaning.{given}
+use Rattle.reader.specs.Meaning.{takenApart}
 
 unread : (b : Bool) (x : Reading) → (x .refusal ≡ 0) → ((cond b x (turnedAway 18)) .refusal ≡ 0 → ⊥) → (cond b x (turnedAway 18)) .refusal ≡ 18
 unread true x e n = absurd (n e)
@@ -21,7 +21,7 @@ pub malformed : (s : List ℕ) → length s ≡ 176 → (readOf s .refusal ≡ 0
 unfolding readOf
 malformed s z n =
     let t = eq-eqb (length s) 176 z in
-    rw t (unread (meetsRules s) (given (contentAt s)) refl (rw t at n))
+    rw t (unread (meetsRules s) (takenApart (contentAt s)) refl (rw t at n))
 
 other : (a b : Bool) (x : Reading) → (x .refusal ≡ 0) → ((cond a (cond b x (turnedAway 18)) (turnedAway 16)) .refusal ≡ 20 → ⊥)
 other true true x e f = let n : _≡_ {A = ℕ} 0 20 = sym e ∙ f in omega arith
@@ -31,4 +31,4 @@ other false b x e f = let n : _≡_ {A = ℕ} 16 20 = f in omega arith
 -- it never gives 20
 pub never-20 : (s : List ℕ) → (readOf s .refusal ≡ 20 → ⊥)
 unfolding readOf
-never-20 s = other (eqb (length s) 176) (meetsRules s) (given (contentAt s)) refl
+never-20 s = other (eqb (length s) 176) (meetsRules s) (takenApart (contentAt s)) refl

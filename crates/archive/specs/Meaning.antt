@@ -4,7 +4,7 @@ use mathlib.Core.Path.{_≡_}
 use mathlib.Core.List.{List, _++_}
 use lib.ListN.{length, take, drop}
 use Rattle.refusals.specs.Refusals.{tornFile, malformedRecord, unequalMirror}
-use Rattle.record.specs.Record.{stored}
+use Rattle.record.specs.Record.{stored, recordBytes}
 use Rattle.reader.specs.Read.{readOf}
 use Rattle.reader.specs.Meaning.{Bytes}
 use Rattle.archive.specs.Forms.{bits, newForm, oldForm}
@@ -24,8 +24,8 @@ Readable s = readOf s .refusal ≡ 0
 abbrev pub OneOldForm : Type 0
 OneOldForm =
     (a : List ℕ) → Bytes a → length a ≡ 152
-    → (length (oldForm a) ≡ 176) × Bytes (oldForm a) × EqualMirror (oldForm a) × (newForm (oldForm a) ≡ a)
-    × ((s : List ℕ) → Bytes s → length s ≡ 176 → EqualMirror s → newForm s ≡ a → s ≡ oldForm a)
+    → (length (oldForm a) ≡ recordBytes) × Bytes (oldForm a) × EqualMirror (oldForm a) × (newForm (oldForm a) ≡ a)
+    × ((s : List ℕ) → Bytes s → length s ≡ recordBytes → EqualMirror s → newForm s ≡ a → s ≡ oldForm a)
 
 -- ---- from the old form to the new
 
@@ -48,22 +48,23 @@ UnequalMirrorExactly =
 -- "A readable old record whose mirrored entries have equal bits comes back byte for byte,"
 abbrev pub OldComesBack : Type 0
 OldComesBack =
-    (s out back : List ℕ) → Bytes s → Readable s → EqualMirror s → 152 ≤ length out → 176 ≤ length back
+    (s out back : List ℕ) → Bytes s → Readable s → EqualMirror s → 152 ≤ length out → recordBytes ≤ length back
     → (fromArchiveAnswer (take 152 (toArchiveOutput s out)) back ≡ 0)
     × (fromArchiveOutput (take 152 (toArchiveOutput s out)) back ≡ stored back s)
 
 -- "and so does every new one whose old form can be read;"
 abbrev pub NewComesBack : Type 0
 NewComesBack =
-    (a back out : List ℕ) → Bytes a → length a ≡ 152 → Readable (oldForm a) → 176 ≤ length back → 152 ≤ length out
+    (a back out : List ℕ) → Bytes a → length a ≡ 152 → Readable (oldForm a) → recordBytes ≤ length back
+    → 152 ≤ length out
     → (fromArchiveAnswer a back ≡ 0)
-    × (toArchiveAnswer (take 176 (fromArchiveOutput a back)) out ≡ 0)
-    × (toArchiveOutput (take 176 (fromArchiveOutput a back)) out ≡ a ++ drop 152 out)
+    × (toArchiveAnswer (take recordBytes (fromArchiveOutput a back)) out ≡ 0)
+    × (toArchiveOutput (take recordBytes (fromArchiveOutput a back)) out ≡ a ++ drop 152 out)
 
 -- "another new one gets 16 or 18."
 abbrev pub OthersTurnedAway : Type 0
 OthersTurnedAway =
-    (a back : List ℕ) → 176 ≤ length back
+    (a back : List ℕ) → recordBytes ≤ length back
     → ((length a ≡ 152 → ⊥) → fromArchiveAnswer a back ≡ tornFile)
     × (length a ≡ 152 → (Readable (oldForm a) → ⊥) → fromArchiveAnswer a back ≡ malformedRecord)
 
@@ -76,4 +77,4 @@ LentAsFound =
     → ((toArchiveAnswer s out ≡ 0 → ⊥) → toArchiveOutput s out ≡ out)
     × ((fromArchiveAnswer s out ≡ 0 → ⊥) → fromArchiveOutput s out ≡ out)
     × (drop 152 (toArchiveOutput s out) ≡ drop 152 out)
-    × (drop 176 (fromArchiveOutput s out) ≡ drop 176 out)
+    × (drop recordBytes (fromArchiveOutput s out) ≡ drop recordBytes out)

@@ -6,7 +6,7 @@ use mathlib.Core.List.{List, _++_}
 use lib.Dec.{ltb, eqb}
 use lib.ListN.{length, drop}
 use Rattle.refusals.specs.Refusals.{shortOutput, tornFile, unequalMirror}
-use Rattle.record.specs.Record.{stored}
+use Rattle.record.specs.Record.{stored, recordBytes}
 use Rattle.reader.specs.Read.{readOf}
 use Rattle.archive.specs.Forms.{bits, newForm, oldForm}
 
@@ -28,7 +28,7 @@ unfoldable pub toArchiveAnswer : List ℕ → List ℕ → ℕ
 toArchiveAnswer s out = cond (ltb (length out) 152) shortOutput (oldRefusal s)
 
 unfoldable pub fromArchiveAnswer : List ℕ → List ℕ → ℕ
-fromArchiveAnswer a out = cond (ltb (length out) 176) shortOutput (newRefusal a)
+fromArchiveAnswer a out = cond (ltb (length out) recordBytes) shortOutput (newRefusal a)
 
 -- the output afterwards: "bytes past the form stay", and a refusal leaves "lent memory as found"
 unfoldable pub toArchiveOutput : List ℕ → List ℕ → List ℕ

@@ -17,7 +17,8 @@ use Rattle.asterix.specs.declared.Multiples.{Multiples}
 use Rattle.asterix.specs.declared.Read.{Read}
 use Rattle.asterix.specs.declared.Read.the-variants as read
 use Rattle.asterix.specs.Multiples.{angle, level, turned, ofWire, onGlobe}
-use Rattle.asterix.specs.Items.{putTwo, putFour, items, fourAt, twoAt, complement, multiplesOf, fitting, writeAnswer, writeOutput}
+use Rattle.asterix.specs.Items.{items, fourAt, twoAt, multiplesOf, fitting, writeAnswer, writeOutput}
+use Rattle.asterix.specs.Held.{putTwo, putFour, complement}
 use Rattle.asterix.specs.Items.{exportable, toAnswer, toOutput, readItems}
 use Rattle.asterix.proofs.Ten.{store}
 

@@ -12,7 +12,7 @@ use borrow.Author.Tests.{ltb-true, le-ltb, lt-ltb, eq-eqb, ne-eqb}
 use Rattle.wire.specs.Nearest.{signed, halfUp, nearest}
 use Rattle.wire.proofs.Distance.{times, nearest-signed}
 use Rattle.asterix.specs.Multiples.{turned}
-use Rattle.asterix.specs.Items.{complement}
+use Rattle.asterix.specs.Held.{complement}
 
 -- an i32 is read back from its bits; of a call's result `.ok` says that it is one
 pub back : {x : ℤ} → mag x < 2 ^ 31 → toZ w32 (ofZ w32 x) ≡ x

@@ -4,7 +4,8 @@ use mathlib.Core.List.{List, [], _∷_}
 use Prim.Native.Nat.{ℕ, _/_, _%_, _^_}
 use native.Mathlib.Omega.{arith}
 use lib.ListN.{length}
-use Rattle.asterix.specs.Items.{putTwo, putFour, bytesOf}
+use Rattle.asterix.specs.Items.{bytesOf}
+use Rattle.asterix.specs.Held.{putTwo, putFour}
 
 pub record Ten (s : List ℕ) : Type 0 where
   pub a : ℕ

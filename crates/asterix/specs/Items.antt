@@ -1,12 +1,12 @@
 -- Document 02, item 13: items I020/041 (latitude, longitude: 32 bits each) and I020/105 (height: 16 bits), one after
 -- the other, "all big-endian two's complement"; what is written to lent bytes, and what ten bytes are read as.
 -- Definitions only.
-use Prim.Native.Nat.{ℕ, suc, _+_, _-_, _*_, _/_, _%_, _^_}
+use Prim.Native.Nat.{ℕ, _+_, _*_, _/_, _%_, _^_}
 use mathlib.Core.Bool.{Bool, cond, _&&_}
 use mathlib.Core.List.{List, [], _∷_}
-use lib.Dec.{eqb, ltb}
-use lib.IntN.{ℤ, pos, negsuc}
-use lib.ListN.{length, getD, set}
+use lib.Dec.{eqb}
+use lib.IntN.{pos, negsuc}
+use lib.ListN.{length, getD}
 use mir.Syntax.{w16, w32}
 use mir.Val.{toZ, ofZ}
 use Rattle.refusals.specs.Refusals.{beyondTheItems}
@@ -76,16 +76,3 @@ toOutput w out = cond (exportable w (length out)) (items (ofWire w)) out
 unfoldable pub readItems : List ℕ → Read
 unfolding multiplesOf
 readItems s = cond (eqb (length s) 10) (read.Three (multiplesOf s)) (read.Refused beyondTheItems)
-
--- ---- steps of the code
-
--- s with a number in its two bytes from byte k on, and in its four, the highest first
-abbrev pub putTwo : List ℕ → ℕ → ℕ → List ℕ
-putTwo s k x = set (set s k (x / 2 ^ 8 % 256)) (k + 1) (x % 256)
-
-abbrev pub putFour : List ℕ → ℕ → ℕ → List ℕ
-putFour s k x = putTwo (putTwo s k (x / 2 ^ 16)) (k + 2) x
-
--- two's complement where `half` is the sign's weight: `toZ w32` of 2 ^ 31, `toZ w16` of 2 ^ 15
-abbrev pub complement : ℕ → ℕ → ℤ
-complement half n = cond (ltb n half) (pos n) (negsuc (2 * half - suc n))

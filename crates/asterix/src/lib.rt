@@ -8,7 +8,8 @@ ghost use mir.Syntax.{w32};
 ghost use mir.Val.{ofZ};
 ghost use Rattle.wire.specs.Nearest as fractions;
 ghost use Rattle.asterix.specs.Multiples.{angle, level, turned, ofWire, onGlobe};
-ghost use Rattle.asterix.specs.Items.{putTwo, putFour, fourAt, twoAt, complement, fitting};
+ghost use Rattle.asterix.specs.Items.{fourAt, twoAt, fitting};
+ghost use Rattle.asterix.specs.Held.{putTwo, putFour, complement};
 ghost use Rattle.asterix.specs.Items.{writeAnswer, writeOutput, toAnswer, toOutput, readItems};
 use wire::Wire;
 

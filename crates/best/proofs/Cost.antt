@@ -22,7 +22,8 @@ use Rattle.damped.specs.declared.Fit.{Fit}
 use Rattle.damped.specs.declared.Lm.{Lm}
 use Rattle.damped.specs.declared.Stepped.{Stepped}
 use Rattle.damped.specs.declared.Verdict.the-variants.{Accepted, Converged, Rejected, Stopped, Failed}
-use Rattle.damped.specs.Damped.{dampedTo, solved, descent, moved, below, small, better, accepted, rejected, step, fitted, unfitted, plain, after, run}
+use Rattle.damped.specs.Damped.{dampedTo, solved, descent, candidate, below, small, better, accepted, rejected, step, fitted, unfitted, plain, after}
+use Rattle.damped.specs.Damped.{run}
 use Rattle.damped.specs.Damped.{started, levenbergMarquardt}
 use Rattle.binary64.proofs.Clear.{clear, add-clear, square-clear}
 
@@ -140,9 +141,10 @@ module _ (C : Chosen) (n : ℕ) (more : (s : Lm) → Fine (s .cost) (s .gradient
       judge false x p e = rejected-goes s f
 
       go : (b : Bool) (x : List Float) → Goes (cond b
-          (cond (better (evaluated C (moved (s .params) x) .cost) (s .cost))
-          (accepted (s .lambda) x (moved (s .params) x) (evaluated C (moved (s .params) x))) (rejected s)) (record { state = s; verdict = Failed }))
-      go true x = judge (better (evaluated C (moved (s .params) x) .cost) (s .cost)) x (moved (s .params) x) refl
+          (cond (better (evaluated C (candidate (s .params) x) .cost) (s .cost))
+          (accepted (s .lambda) x (candidate (s .params) x) (evaluated C (candidate (s .params) x))) (rejected s))
+          (record { state = s; verdict = Failed }))
+      go true x = judge (better (evaluated C (candidate (s .params) x) .cost) (s .cost)) x (candidate (s .params) x) refl
       go false x = λ h. absurd h
 
 run-number : (C : Chosen) (n : ℕ) (s : Lm) → Fine (s .cost) (s .gradient) → Number (run C n s)

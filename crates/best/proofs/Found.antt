@@ -15,7 +15,7 @@ use Rattle.geo.specs.Geo.{fromEcef}
 use Rattle.sets.specs.Sets.{Subset, count}
 use Rattle.sets.proofs.Tests.{either, T→eq, F→eq, eq→T, and-l, and-r, and-both, lt-suc-cases}
 use Rattle.sets.proofs.Counting.{count-pos, count-some}
-use Rattle.problem.specs.Problem.{position}
+use Rattle.problem.specs.Problem.{position, range}
 use Rattle.whitening.specs.Whitened.{Chosen}
 use Rattle.damped.specs.declared.Fit.{Fit}
 use Rattle.damped.specs.Damped.{levenbergMarquardt}
@@ -23,8 +23,8 @@ use Rattle.best.specs.declared.Unfit.{Unfit}
 use Rattle.best.specs.declared.Unfit.the-variants.{NoConvergence, OutOfRange, Ambiguous, Singular}
 use Rattle.limits.specs.Heights.{minHeightM, maxHeightM}
 use Rattle.limits.specs.Limits.{chi2Limit}
-use Rattle.best.specs.Plausible.{maxRangeM, range, nearTo, plausible}
-use Rattle.best.specs.Best.{Outcome, gives, fails, distance, explainsAlike, fitAt, any, weighed, rival, bestOf, judged, best}
+use Rattle.best.specs.Plausible.{maxRangeM, nearTo, plausible}
+use Rattle.best.specs.Best.{Outcome, gives, refuses, distance, explainsAlike, fitAt, anyFit, weighed, rival, bestOf, judged, best}
 use Rattle.best.specs.Meaning.{fitFrom, Plausible, Converges, Weighed, Leads, Rival, IsBest, Rivalled, NoneConverges, NonePlausible, Answered}
 use Rattle.best.proofs.Order.{le-of-not-lt, le-lt}
 use Rattle.best.proofs.Passes.{nothing}
@@ -182,21 +182,21 @@ module _ (C : Chosen) (starts : List (List Float)) where
   weighed-none h = of-none candidate costAt number (length fits) (λ j l. not-T (candidate j) (λ t. h j (weighed-is j (listed j l) t)))
 
   -- ---- whether one of the fits passes a test
-  some-any : (p : Fit → Bool) (j : ℕ) → j < length starts → T (p (fitFrom C starts j)) → any p fits ≡ true
+  some-any : (p : Fit → Bool) (j : ℕ) → j < length starts → T (p (fitFrom C starts j)) → anyFit p fits ≡ true
   some-any p j l t =
-      T→eq (any p fits) (lt→ltb 0 (count (λ i. p (fitAt fits i)) (length fits))
+      T→eq (anyFit p fits) (lt→ltb 0 (count (λ i. p (fitAt fits i)) (length fits))
       (count-pos (λ i. p (fitAt fits i)) (length fits) j (listed-back j l) (of-list (λ f. T (p f)) j l t)))
 
-  any-some : (p : Fit → Bool) → any p fits ≡ true → (j : ℕ) × (j < length starts) × T (p (fitFrom C starts j))
+  any-some : (p : Fit → Bool) → anyFit p fits ≡ true → (j : ℕ) × (j < length starts) × T (p (fitFrom C starts j))
   any-some p e =
       let w = count-some (λ i. p (fitAt fits i)) (length fits) (ltb→lt 0 (count (λ i. p (fitAt fits i)) (length fits)) (eq→T e)) in
       let l = listed (w .0) (w .1) in
       (w .0, l, of-start (λ f. T (p f)) (w .0) l (w .2))
 
-  not-any : (p : Fit → Bool) → ((j : ℕ) → j < length starts → T (p (fitFrom C starts j)) → ⊥) → any p fits ≡ false
-  not-any p h = F→eq (any p fits) (not-T (any p fits) (λ t. let w = any-some p (T→eq (any p fits) t) in h (w .0) (w .1) (w .2)))
+  not-any : (p : Fit → Bool) → ((j : ℕ) → j < length starts → T (p (fitFrom C starts j)) → ⊥) → anyFit p fits ≡ false
+  not-any p h = F→eq (anyFit p fits) (not-T (anyFit p fits) (λ t. let w = any-some p (T→eq (anyFit p fits) t) in h (w .0) (w .1) (w .2)))
 
-  none-any : (p : Fit → Bool) → any p fits ≡ false → (j : ℕ) → j < length starts → T (p (fitFrom C starts j)) → ⊥
+  none-any : (p : Fit → Bool) → anyFit p fits ≡ false → (j : ℕ) → j < length starts → T (p (fitFrom C starts j)) → ⊥
   none-any p e j l t = false≢true (sym e ∙ some-any p j l t)
 
   -- ---- rivals of the fit from the i-th start, which converged
@@ -243,27 +243,27 @@ module _ (C : Chosen) (starts : List (List Float)) where
     abbrev rivals : Fit → Bool
     rivals = rival (C .sites) (C .k) (fitFrom C starts i)
 
-    led : (b : Bool) → any rivals fits ≡ b → best C starts ≡ cond b (fails Ambiguous) (gives (fitFrom C starts i))
+    led : (b : Bool) → anyFit rivals fits ≡ b → best C starts ≡ cond b (refuses Ambiguous) (gives (fitFrom C starts i))
     led b e =
         chosen-by (some i) (is-led i h)
-        ∙ ap (λ (f : Fit). cond (any (rival (C .sites) (C .k) f) fits) (fails Ambiguous) (gives f)) (at-start i (h .weighed .converges .listed))
-        ∙ ap (λ (x : Bool). cond x (fails Ambiguous) (gives (fitFrom C starts i))) e
+        ∙ ap (λ (f : Fit). cond (anyFit (rival (C .sites) (C .k) f) fits) (refuses Ambiguous) (gives f)) (at-start i (h .weighed .converges .listed))
+        ∙ ap (λ (x : Bool). cond x (refuses Ambiguous) (gives (fitFrom C starts i))) e
 
     led-alone : ((j : ℕ) → Rival C starts i j → ⊥) → best C starts ≡ gives (fitFrom C starts i)
     led-alone n = led false (not-any rivals (λ j l t. n j (rival-is i (h .weighed .converges) j l t)))
 
-    led-rivalled : (j : ℕ) → Rival C starts i j → best C starts ≡ fails Ambiguous
+    led-rivalled : (j : ℕ) → Rival C starts i j → best C starts ≡ refuses Ambiguous
     led-rivalled j r = led true (some-any rivals j (r .weighed .converges .listed) (is-rival i (h .weighed .converges) j r))
 
-  of-none-converges : NoneConverges C starts → best C starts ≡ fails NoConvergence
+  of-none-converges : NoneConverges C starts → best C starts ≡ refuses NoConvergence
   of-none-converges h =
       chosen-by none (weighed-none (λ j w. h j (w .converges)))
-      ∙ ap (λ (x : Bool). fails (cond x OutOfRange NoConvergence)) (not-any (λ f. f .ok) (λ j l t. h j (record { listed = l; converged = t })))
+      ∙ ap (λ (x : Bool). refuses (cond x OutOfRange NoConvergence)) (not-any (λ f. f .ok) (λ j l t. h j (record { listed = l; converged = t })))
 
-  of-none-plausible : NonePlausible C starts → best C starts ≡ fails OutOfRange
+  of-none-plausible : NonePlausible C starts → best C starts ≡ refuses OutOfRange
   of-none-plausible h =
       chosen-by none (weighed-none (h .1))
-      ∙ ap (λ (x : Bool). fails (cond x OutOfRange NoConvergence)) (some-any (λ f. f .ok) (h .0 .0) (h .0 .1 .listed) (h .0 .1 .converged))
+      ∙ ap (λ (x : Bool). refuses (cond x OutOfRange NoConvergence)) (some-any (λ f. f .ok) (h .0 .0) (h .0 .1 .listed) (h .0 .1 .converged))
 
   -- one of the four is so
   data Came : Type 0 where
@@ -275,24 +275,24 @@ module _ (C : Chosen) (starts : List (List Float)) where
   came : Came
   came = go chosenBest refl
     where
-      lone : (i : ℕ) (h : Leads C starts i) (b : Bool) → any (rivals i h) fits ≡ b → Came
+      lone : (i : ℕ) (h : Leads C starts i) (b : Bool) → anyFit (rivals i h) fits ≡ b → Came
       lone i h true e = let w = any-some (rivals i h) e in rivalled (i, w .0, h, rival-is i (h .weighed .converges) (w .0) (w .1) (w .2))
       lone i h false e = alone i h (λ j r. none-any (rivals i h) e j (r .weighed .converges .listed) (is-rival i (h .weighed .converges) j r))
 
-      none-chosen : chosenBest ≡ none → (b : Bool) → any (λ f. f .ok) fits ≡ b → Came
+      none-chosen : chosenBest ≡ none → (b : Bool) → anyFit (λ f. f .ok) fits ≡ b → Came
       none-chosen c true e = let w = any-some (λ f. f .ok) e in implausible ((w .0, record { listed = w .1; converged = w .2 }), none-weighed c)
       none-chosen c false e = unconverged (λ j v. none-any (λ f. f .ok) e j (v .listed) (v .converged))
 
       go : (o : Option ℕ) → chosenBest ≡ o → Came
-      go none c = none-chosen c (any (λ f. f .ok) fits) refl
-      go (some i) c = let h = leads-is i c in lone i h (any (rivals i h) fits) refl
+      go none c = none-chosen c (anyFit (λ f. f .ok) fits) refl
+      go (some i) c = let h = leads-is i c in lone i h (anyFit (rivals i h) fits) refl
 
   -- what it gives is so
   abbrev outcome : Came → Outcome Unfit Fit
   outcome (alone i h n) = gives (fitFrom C starts i)
-  outcome (rivalled h) = fails Ambiguous
-  outcome (unconverged h) = fails NoConvergence
-  outcome (implausible h) = fails OutOfRange
+  outcome (rivalled h) = refuses Ambiguous
+  outcome (unconverged h) = refuses NoConvergence
+  outcome (implausible h) = refuses OutOfRange
 
   came-out : (c : Came) → best C starts ≡ outcome c
   came-out (alone i h n) = led-alone i h n
@@ -309,25 +309,25 @@ module _ (C : Chosen) (starts : List (List Float)) where
   found-so fit (unconverged h) q = absurd (let z : _≡_ {A = ℕ} 0 1 = cc in omega arith)
   found-so fit (implausible h) q = absurd (let z : _≡_ {A = ℕ} 0 1 = cc in omega arith)
 
-  ambiguous-so : (c : Came) → outcome c ≡ fails Ambiguous → Rivalled C starts
+  ambiguous-so : (c : Came) → outcome c ≡ refuses Ambiguous → Rivalled C starts
   ambiguous-so (rivalled h) q = h
   ambiguous-so (alone i h n) q = absurd (let z : _≡_ {A = ℕ} 0 1 = cc in omega arith)
   ambiguous-so (unconverged h) q = absurd (let z : _≡_ {A = ℕ} 0 1 = cc in omega arith)
   ambiguous-so (implausible h) q = absurd (let z : _≡_ {A = ℕ} 0 1 = cc in omega arith)
 
-  unconverged-so : (c : Came) → outcome c ≡ fails NoConvergence → NoneConverges C starts
+  unconverged-so : (c : Came) → outcome c ≡ refuses NoConvergence → NoneConverges C starts
   unconverged-so (unconverged h) q = h
   unconverged-so (alone i h n) q = absurd (let z : _≡_ {A = ℕ} 0 1 = cc in omega arith)
   unconverged-so (rivalled h) q = absurd (let z : _≡_ {A = ℕ} 0 1 = cc in omega arith)
   unconverged-so (implausible h) q = absurd (let z : _≡_ {A = ℕ} 0 1 = cc in omega arith)
 
-  implausible-so : (c : Came) → outcome c ≡ fails OutOfRange → NonePlausible C starts
+  implausible-so : (c : Came) → outcome c ≡ refuses OutOfRange → NonePlausible C starts
   implausible-so (implausible h) q = h
   implausible-so (alone i h n) q = absurd (let z : _≡_ {A = ℕ} 0 1 = cc in omega arith)
   implausible-so (rivalled h) q = absurd (let z : _≡_ {A = ℕ} 0 1 = cc in omega arith)
   implausible-so (unconverged h) q = absurd (let z : _≡_ {A = ℕ} 0 1 = cc in omega arith)
 
-  never-singular : (c : Came) → outcome c ≡ fails Singular → ⊥
+  never-singular : (c : Came) → outcome c ≡ refuses Singular → ⊥
   never-singular (alone i h n) q = let z : _≡_ {A = ℕ} 0 1 = cc in omega arith
   never-singular (rivalled h) q = let z : _≡_ {A = ℕ} 0 1 = cc in omega arith
   never-singular (unconverged h) q = let z : _≡_ {A = ℕ} 0 1 = cc in omega arith

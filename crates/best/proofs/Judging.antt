@@ -11,16 +11,18 @@ use lib.Ieee.Bits.{is-true}
 use Rattle.geo.specs.Geo.{fromEcef}
 use Rattle.geo.specs.declared.Geodetic.{Geodetic}
 use Rattle.dense.specs.Factor as factor
-use Rattle.dense.specs.Factor.{verdict}
+use Rattle.dense.specs.Held.{verdict}
 use Rattle.linalg.specs.Methods.{zeros}
 use Rattle.problem.specs.Problem.{position}
 use Rattle.problem.specs.declared.Altitude.{Altitude}
 use Rattle.whitening.specs.Covariance.{whitener}
-use Rattle.whitening.specs.Whitened.{Chosen, chosen, Rows, rows}
+use Rattle.whitening.specs.Whitened.{Chosen, Rows, rows}
+use Rattle.whitening.specs.Held.{chosen}
 use Rattle.whitening.specs.Whitened as whitening
 use Rattle.limits.specs.Limits.{roundingNorm}
 use Rattle.sets.specs.Sets.{Subset, count}
-use Rattle.sets.specs.Choice.{choose, indexOf}
+use Rattle.sets.specs.Choice.{choose}
+use Rattle.sets.specs.Held.{indexOf}
 use Rattle.sets.proofs.Tests.{and-l}
 use Rattle.sets.proofs.Choosing.{chosen-some, chosen-none, chosen-below}
 use Rattle.damped.specs.declared.Fit.{Fit}
@@ -29,9 +31,8 @@ use Rattle.best.specs.declared.Unfit.{Unfit}
 use Rattle.best.specs.declared.Unfit.the-variants.{NoConvergence, OutOfRange, Ambiguous, Singular}
 use Rattle.best.specs.declared.BestAt.{BestAt}
 use Rattle.best.specs.Plausible.{plausible}
-use Rattle.best.specs.Best.{Outcome, gives, fails, asBest, explainsAlike, fitAt, cheaper, any, weighed, rival, bestOf, judged, best, whitened}
-use Rattle.best.specs.Best.{bestFit}
-use Rattle.best.specs.Held.{normAt, asBestAt, arrayOf}
+use Rattle.best.specs.Best.{Outcome, gives, refuses, explainsAlike, fitAt, cheaper, anyFit, weighed, rival, bestOf, judged, best, withWhitener}
+use Rattle.best.specs.Held.{normAt, asBestAt, arrayOf, asBest, bestFit}
 use Rattle.best.proofs.Cheapest as cheapest
 
 -- the best, or why there is none, beside a place and a norm
@@ -74,12 +75,12 @@ module _ {sites : List Float} {k : ℕ} {fits : List Fit} {n top : ℕ} {S : Sub
 
   module _ (r : Bool) (h : top < 32) (fit : Fit) (f : fit ≡ fitAt fits top)
       (e : r ≡ ltb 0 (count (λ i. S i && explainsAlike fit (fitAt fits i)) n)) where
-    rivalled : r ≡ any (rival sites k (fitAt fits top)) fits
+    rivalled : r ≡ anyFit (rival sites k (fitAt fits top)) fits
     rivalled =
         e ∙ ap₂ (λ (R : Subset) (m : ℕ). ltb 0 (count (λ i. R i && explainsAlike fit (fitAt fits i)) m)) (held .set) (sym (held .all))
-        ∙ ap (λ (x : Fit). any (rival sites k x) fits) f
+        ∙ ap (λ (x : Fit). anyFit (rival sites k x) fits) f
 
-    pub ambiguous : r ≡ true → fails Ambiguous ≡ answer
+    pub ambiguous : r ≡ true → refuses Ambiguous ≡ answer
     ambiguous g = rw (some-is h, ← rivalled, g)
 
     pub alone : r ≡ false → gives fit ≡ answer
@@ -90,11 +91,11 @@ module _ {sites : List Float} {k : ℕ} {fits : List Fit} {n top : ℕ} {S : Sub
         → held-at (gives fit) g x ≡ asBestAt C answer
     alone-at q C g x e n = ap₂ (held-at (gives fit)) e n ∙ ap (asBestAt C) (alone q)
 
-  module _ (r : Bool) (h : 32 ≤ top) (e : r ≡ any (λ fit. fit .ok) fits) where
-    pub out-of-range : r ≡ true → fails OutOfRange ≡ answer
+  module _ (r : Bool) (h : 32 ≤ top) (e : r ≡ anyFit (λ fit. fit .ok) fits) where
+    pub out-of-range : r ≡ true → refuses OutOfRange ≡ answer
     out-of-range g = rw (none-is h, ← e, g)
 
-    pub no-convergence : r ≡ false → fails NoConvergence ≡ answer
+    pub no-convergence : r ≡ false → refuses NoConvergence ≡ answer
     no-convergence g = rw (none-is h, ← e, g)
 
 -- ---- the whitener first, whose answer the code holds as a flag b beside the array l
@@ -104,19 +105,19 @@ module _ (clock : List Float) (n : ℕ) (noise : List Float) (index : List ℕ) 
   abbrev outcome : Outcome Unfit Fit
   outcome = bestFit clock n noise index sites z k altitude starts
 
-  told-by : verdict b l ≡ whitener clock n noise index k zeros → whitened (verdict b l) (λ w. best (chosen k sites z w altitude) starts) ≡ outcome
+  told-by : verdict b l ≡ whitener clock n noise index k zeros → withWhitener (verdict b l) (λ w. best (chosen k sites z w altitude) starts) ≡ outcome
   unfolding bestFit
-  told-by f = ap (λ (F : factor.Factor). whitened F (λ w. best (chosen k sites z w altitude) starts)) f
+  told-by f = ap (λ (F : factor.Factor). withWhitener F (λ w. best (chosen k sites z w altitude) starts)) f
 
   told-found : b ≡ true → (fits : List Fit) → fits ≡ map (levenbergMarquardt (chosen k sites z l altitude)) starts
       → judged sites k fits (bestOf sites k fits) ≡ outcome
   unfolding best
   told-found t fits f =
       ap (λ (fs : List Fit). judged sites k fs (bestOf sites k fs)) f
-      ∙ ap (λ (x : Bool). whitened (verdict x l) (λ w. best (chosen k sites z w altitude) starts)) (sym t) ∙ told-by e
+      ∙ ap (λ (x : Bool). withWhitener (verdict x l) (λ w. best (chosen k sites z w altitude) starts)) (sym t) ∙ told-by e
 
-  told-refused : b ≡ false → fails Singular ≡ outcome
-  told-refused t = ap (λ (x : Bool). whitened (verdict x l) (λ w. best (chosen k sites z w altitude) starts)) (sym t) ∙ told-by e
+  told-refused : b ≡ false → refuses Singular ≡ outcome
+  told-refused t = ap (λ (x : Bool). withWhitener (verdict x l) (λ w. best (chosen k sites z w altitude) starts)) (sym t) ∙ told-by e
 
   -- the array is the factor's
   array-of : (x : Bool) → l ≡ arrayOf (verdict x l)
@@ -131,5 +132,5 @@ module _ (clock : List Float) (n : ℕ) (noise : List Float) (index : List ℕ) 
       → asBestAt (chosen k sites z l altitude) (judged sites k fits (bestOf sites k fits)) ≡ asBestAt heard outcome
   whitened-found t fits f = ap₂ asBestAt (ap (λ (w : List Float). chosen k sites z w altitude) (array-of b ∙ ap arrayOf e)) (told-found t fits f)
 
-  pub whitened-refused : b ≡ false → (r : BestAt) → ((C : Chosen) → r ≡ asBestAt C (fails Singular)) → r ≡ asBestAt heard outcome
+  pub whitened-refused : b ≡ false → (r : BestAt) → ((C : Chosen) → r ≡ asBestAt C (refuses Singular)) → r ≡ asBestAt heard outcome
   whitened-refused t r f = f heard ∙ ap (asBestAt heard) (told-refused t)

@@ -11,11 +11,11 @@ use lib.Ieee.{Float}
 use Rattle.sets.proofs.Tests.{lt-suc-cases}
 use Rattle.problem.specs.declared.Altitude.{Altitude}
 use Rattle.starts.specs.declared.Points.{Points}
-use Rattle.starts.specs.Points.{empty, packed, point}
+use Rattle.starts.specs.Held.{empty, packed, point}
 use Rattle.starts.specs.Starts.{startsAfter}
 use Rattle.starts.proofs.Count.{starts-count}
 use Rattle.starts.proofs.Back.{starts-at}
-use Rattle.best.specs.Best.{pointsTo}
+use Rattle.best.specs.Held.{pointsTo}
 
 pub points-length : (at : List Float) (n : ℕ) → length (pointsTo at n) ≡ n
 unfolding pointsTo

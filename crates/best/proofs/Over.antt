@@ -14,13 +14,13 @@ use Rattle.linalg.specs.Vec3.{sub, norm}
 use Rattle.sets.specs.Sets.{Subset, count}
 use Rattle.sets.proofs.Counting.{count-le}
 use Rattle.sets.proofs.Listed.{Placed, placed}
-use Rattle.problem.specs.Problem.{siteAt, position}
+use Rattle.problem.specs.Problem.{siteAt, position, range}
 use Rattle.whitening.specs.Whitened.{Chosen}
 use Rattle.damped.specs.declared.Fit.{Fit}
 use Rattle.best.specs.declared.Unfit.{Unfit}
 use Rattle.best.specs.declared.Unfit.the-variants.{NoConvergence, OutOfRange, Ambiguous, Singular}
-use Rattle.best.specs.Plausible.{maxRangeM, range}
-use Rattle.best.specs.Best.{Outcome, fails, gives, best, whitened}
+use Rattle.best.specs.Plausible.{maxRangeM}
+use Rattle.best.specs.Best.{Outcome, refuses, gives, best, withWhitener}
 use Rattle.best.specs.OfProblem.{Receptions, subset, subsetSites, whitenerOver, chosenOver, startsOver, bestFitOver}
 use Rattle.best.specs.Meaning.{IsBest, Rivalled, NoneConverges, NonePlausible, IsBestOver, Whitened, AnsweredOver}
 use Rattle.best.proofs.Found.{answered}
@@ -49,12 +49,12 @@ module _ (R : Receptions) (S : Subset) (previous : Option (List Float)) where
   abbrev bestOver : List Float → Outcome Unfit Fit
   bestOver l = best (chosenOver R S l) (startsOver R S previous)
 
-  by-whitener : (F : factor.Factor) → whitenerOver R S ≡ F → bestFitOver R S previous ≡ whitened F bestOver
+  by-whitener : (F : factor.Factor) → whitenerOver R S ≡ F → bestFitOver R S previous ≡ withWhitener F bestOver
   unfolding bestFitOver
-  by-whitener F e = ap (λ (x : factor.Factor). whitened x bestOver) e
+  by-whitener F e = ap (λ (x : factor.Factor). withWhitener x bestOver) e
 
   -- an outcome that is not 6 is the best over whitened receptions
-  not-refused : (o : Outcome Unfit Fit) → (fails Singular ≡ o → ⊥) → bestFitOver R S previous ≡ o → (l : List Float)
+  not-refused : (o : Outcome Unfit Fit) → (refuses Singular ≡ o → ⊥) → bestFitOver R S previous ≡ o → (l : List Float)
       × (whitenerOver R S ≡ factor.found l) × (bestOver l ≡ o)
   not-refused o never e = go (whitenerOver R S) refl
     where
@@ -69,23 +69,23 @@ module _ (R : Receptions) (S : Subset) (previous : Option (List Float)) where
   -- a refusal of the best fit is one of the round
   refused-over
       : (u : Unfit) (Holds : Chosen → List (List Float) → Type 0) → (Singular ≡ u → ⊥)
-      → ((C : Chosen) (starts : List (List Float)) → (best C starts ≡ fails u) ↔ Holds C starts)
-      → (bestFitOver R S previous ≡ fails u) ↔ Whitened R S previous Holds
+      → ((C : Chosen) (starts : List (List Float)) → (best C starts ≡ refuses u) ↔ Holds C starts)
+      → (bestFitOver R S previous ≡ refuses u) ↔ Whitened R S previous Holds
   refused-over u Holds never exactly = (to, from)
     where
-      other : _≡_ {A = Outcome Unfit Fit} (fails Singular) (fails u) → ⊥
+      other : _≡_ {A = Outcome Unfit Fit} (refuses Singular) (refuses u) → ⊥
       other e = never (cc)
 
-      to : bestFitOver R S previous ≡ fails u → Whitened R S previous Holds
-      to e = let w = not-refused (fails u) other e in (w .0, w .1, exactly (chosenOver R S (w .0)) (startsOver R S previous) .0 (w .2))
+      to : bestFitOver R S previous ≡ refuses u → Whitened R S previous Holds
+      to e = let w = not-refused (refuses u) other e in (w .0, w .1, exactly (chosenOver R S (w .0)) (startsOver R S previous) .0 (w .2))
 
-      from : Whitened R S previous Holds → bestFitOver R S previous ≡ fails u
-      from h = over (fails u) (h .0) (h .1) (exactly (chosenOver R S (h .0)) (startsOver R S previous) .1 (h .2))
+      from : Whitened R S previous Holds → bestFitOver R S previous ≡ refuses u
+      from h = over (refuses u) (h .0) (h .1) (exactly (chosenOver R S (h .0)) (startsOver R S previous) .1 (h .2))
 
-  singular-over : (bestFitOver R S previous ≡ fails Singular) ↔ ((l : List Float) × (whitenerOver R S ≡ factor.refused l))
+  singular-over : (bestFitOver R S previous ≡ refuses Singular) ↔ ((l : List Float) × (whitenerOver R S ≡ factor.refused l))
   singular-over = ((λ e. go (whitenerOver R S) refl e), λ h. by-whitener (factor.refused (h .0)) (h .1))
     where
-      go : (F : factor.Factor) → whitenerOver R S ≡ F → bestFitOver R S previous ≡ fails Singular → (l : List Float)
+      go : (F : factor.Factor) → whitenerOver R S ≡ F → bestFitOver R S previous ≡ refuses Singular → (l : List Float)
           × (whitenerOver R S ≡ factor.refused l)
       go (factor.found l) w e = absurd (answered (chosenOver R S l) (startsOver R S previous) .notSingular (sym (by-whitener (factor.found l) w) ∙ e))
       go (factor.refused l) w e = (l, w)

@@ -13,19 +13,21 @@ use lib.Ieee.{Float, le}
 use borrow.Author.Tests.{le-leb, lt-ltb, eq-eqb, ne-eqb}
 use Rattle.sets.specs.Sets.{Subset, joined, count}
 use Rattle.sets.specs.Mask.{has}
-use Rattle.sets.specs.Choice.{choose, indexOf}
+use Rattle.sets.specs.Choice.{choose}
+use Rattle.sets.specs.Held.{indexOf}
 use Rattle.sets.proofs.Tests.{either}
 use Rattle.sets.proofs.Digits.{has-zero}
 use Rattle.sets.proofs.Choosing.{choice-turn}
 use Rattle.geo.specs.Geo.{fromEcef}
+use Rattle.geo.specs.Held.{nowhere}
 use Rattle.problem.specs.Problem.{position}
 use Rattle.damped.specs.declared.Fit.{Fit}
 use Rattle.damped.specs.declared.Placed.{Placed}
 use Rattle.damped.specs.Damped.{unfitted}
-use Rattle.damped.specs.Placed.{nowhere, placed}
-use Rattle.starts.specs.Points.{point}
-use Rattle.best.specs.Best.{fitAt, cheaper, pointsTo}
-use Rattle.best.specs.Held.{fitsOf, placedAt, EachPlaced}
+use Rattle.damped.specs.Held.{placed}
+use Rattle.starts.specs.Held.{point}
+use Rattle.best.specs.Best.{fitAt, cheaper}
+use Rattle.best.specs.Held.{fitsOf, placedAt, EachPlaced, pointsTo}
 use Rattle.best.proofs.Listing.{points-length}
 
 -- what lies past the last of a list of fits

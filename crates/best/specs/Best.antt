@@ -1,39 +1,28 @@
 -- `best_fit` of solve.rs, over the fits from a list of starts. Definitions only.
-use mathlib.Core.Bool.{Bool, true, false, not, cond, _&&_}
-use mathlib.Core.List.{List, [], _∷_, _++_, map}
+use mathlib.Core.Bool.{Bool, false, not, cond, _&&_}
+use mathlib.Core.List.{List, [], map}
 use mathlib.Core.Option.{Option, none, some}
-use Prim.Native.Nat.{ℕ, zero, suc}
-use lib.Dec.{ltb}
+use Prim.Native.Nat.{ℕ}
 use lib.ListN.{length, getD, replicate}
 use lib.Ieee.{Float, nan, lt, le}
 use Rattle.binary64.specs.Steps.{_⊕_, _⊖_, decimal, nought}
 use Rattle.dense.specs.Entries.{nth, dots, mulVec}
 use Rattle.dense.specs.Factor as factor
-use Rattle.linalg.specs.Methods.{zeros}
-use Rattle.sets.specs.Sets.{count}
+use Rattle.sets.specs.Sets.{any}
 use Rattle.sets.specs.Choice.{choose}
-use Rattle.problem.specs.declared.Altitude.{Altitude}
 use Rattle.problem.specs.Problem.{four}
 use Rattle.limits.specs.Limits.{chi2Limit}
-use Rattle.whitening.specs.Covariance.{whitener}
-use Rattle.whitening.specs.Whitened.{Chosen, chosen}
+use Rattle.whitening.specs.Whitened.{Chosen}
 use Rattle.damped.specs.declared.Fit.{Fit}
-use Rattle.damped.specs.Damped.{unfitted, levenbergMarquardt}
-use Rattle.starts.specs.Points.{point}
+use Rattle.damped.specs.Damped.{levenbergMarquardt}
 use Rattle.best.specs.declared.Unfit.{Unfit}
 use Rattle.best.specs.declared.Unfit.the-variants.{NoConvergence, OutOfRange, Ambiguous, Singular}
-use Rattle.best.specs.declared.Best.{Best}
 use Rattle.best.specs.Plausible.{plausible}
 
 -- `Result<A, SolveError>`: what a step gives, or why it refuses
 pub data Outcome (E A : Type 0) : Type 0 where
-  fails : E → Outcome E A
+  refuses : E → Outcome E A
   gives : A → Outcome E A
-
--- as the code holds it: beside a refusal stands no fit, and beside a fit a refusal that means nothing
-abbrev pub asBest : Outcome Unfit Fit → Best
-asBest (fails e) = record { found = false; why = e; fit = unfitted }
-asBest (gives f) = record { found = true; why = NoConvergence; fit = f }
 
 -- "squared Mahalanobis distance of the four parameters under the best's information": delta · (information delta)
 unfoldable pub distance : Fit → Fit → Float
@@ -59,8 +48,8 @@ abbrev pub cheaper : List Fit → ℕ → ℕ → Bool
 cheaper fits i top = not (le (fitAt fits top .cost) (fitAt fits i .cost))
 
 -- whether one of them passes a test
-abbrev pub any : (Fit → Bool) → List Fit → Bool
-any p fits = ltb 0 (count (λ i. p (fitAt fits i)) (length fits))
+abbrev pub anyFit : (Fit → Bool) → List Fit → Bool
+anyFit p fits = any (λ i. p (fitAt fits i)) (length fits)
 
 -- with the k sites of the receptions used
 module _ (sites : List Float) (k : ℕ) where
@@ -79,8 +68,8 @@ module _ (sites : List Float) (k : ℕ) where
 
   -- what `best_fit` makes of them
   abbrev pub judged : List Fit → Option ℕ → Outcome Unfit Fit
-  judged fits none = fails (cond (any (λ fit. fit .ok) fits) OutOfRange NoConvergence)
-  judged fits (some i) = cond (any (rival (fitAt fits i)) fits) (fails Ambiguous) (gives (fitAt fits i))
+  judged fits none = refuses (cond (anyFit (λ fit. fit .ok) fits) OutOfRange NoConvergence)
+  judged fits (some i) = cond (anyFit (rival (fitAt fits i)) fits) (refuses Ambiguous) (gives (fitAt fits i))
 
 -- the best fit from a list of starts
 unfoldable pub best : Chosen → List (List Float) → Outcome Unfit Fit
@@ -88,17 +77,6 @@ best C starts = let fits = map (levenbergMarquardt C) starts in
     judged (C .sites) (C .k) fits (bestOf (C .sites) (C .k) fits)
 
 -- `whitener(subset).ok_or(SolveError::Singular)?` comes before the fits
-abbrev pub whitened : factor.Factor → (List Float → Outcome Unfit Fit) → Outcome Unfit Fit
-whitened (factor.found l) fit = fit l
-whitened (factor.refused l) fit = fails Singular
-
--- `best_fit`, of the k receptions of `index`
-unfoldable pub bestFit : List Float → ℕ → List Float → List ℕ → List Float → List Float → ℕ → Altitude
-    → List (List Float) → Outcome Unfit Fit
-bestFit clock n noise index sites z k altitude starts =
-    whitened (whitener clock n noise index k zeros) (λ l. best (chosen k sites z l altitude) starts)
-
--- the first k starts of the array that holds them
-unfoldable pub pointsTo : List Float → ℕ → List (List Float)
-pointsTo at zero = []
-pointsTo at (suc i) = pointsTo at i ++ (point at i ∷ [])
+abbrev pub withWhitener : factor.Factor → (List Float → Outcome Unfit Fit) → Outcome Unfit Fit
+withWhitener (factor.found l) fit = fit l
+withWhitener (factor.refused l) fit = refuses Singular

@@ -12,16 +12,16 @@ use lib.Ieee.{Float, lt, le, isNan}
 use Rattle.binary64.specs.Steps.{_⊕_, decimal}
 use Rattle.geo.specs.Geo.{fromEcef}
 use Rattle.dense.specs.Factor as factor
-use Rattle.sets.specs.Sets.{Subset}
-use Rattle.problem.specs.Problem.{position}
+use Rattle.sets.specs.Sets.{Subset, mostReceptions}
+use Rattle.problem.specs.Problem.{position, range}
 use Rattle.whitening.specs.Whitened.{Chosen}
 use Rattle.damped.specs.declared.Fit.{Fit}
 use Rattle.damped.specs.Damped.{levenbergMarquardt}
 use Rattle.limits.specs.Heights.{minHeightM, maxHeightM}
 use Rattle.limits.specs.Limits.{chi2Limit}
 use Rattle.best.specs.declared.Unfit.the-variants.{NoConvergence, OutOfRange, Ambiguous, Singular}
-use Rattle.best.specs.Plausible.{maxRangeM, range}
-use Rattle.best.specs.Best.{gives, fails, distance, best}
+use Rattle.best.specs.Plausible.{maxRangeM}
+use Rattle.best.specs.Best.{gives, refuses, distance, best}
 use Rattle.best.specs.OfProblem.{Receptions, whitenerOver, chosenOver, startsOver, bestFitOver}
 
 -- Demand 3: "used ranges at most 600,000 m, height -1,500 to 25,000 m", as binary64 compares. The k sites are those of
@@ -89,10 +89,10 @@ module _ (C : Chosen) (starts : List (List Float)) where
   pub record Answered : Type 0 where
     pub numbers : (i : ℕ) → T (fitFrom C starts i .ok) → T (not (isNan (fitFrom C starts i .cost)))
     pub found : (fit : Fit) → (best C starts ≡ gives fit) ↔ ((i : ℕ) × IsBest C starts fit i)
-    pub ambiguous : (best C starts ≡ fails Ambiguous) ↔ Rivalled C starts
-    pub noConvergence : (best C starts ≡ fails NoConvergence) ↔ NoneConverges C starts
-    pub outOfRange : (best C starts ≡ fails OutOfRange) ↔ NonePlausible C starts
-    pub notSingular : best C starts ≡ fails Singular → ⊥
+    pub ambiguous : (best C starts ≡ refuses Ambiguous) ↔ Rivalled C starts
+    pub noConvergence : (best C starts ≡ refuses NoConvergence) ↔ NoneConverges C starts
+    pub outOfRange : (best C starts ≡ refuses OutOfRange) ↔ NonePlausible C starts
+    pub notSingular : best C starts ≡ refuses Singular → ⊥
 
 -- over a set S of the receptions R, after a round that found the parameters `previous`
 module _ (R : Receptions) (S : Subset) (previous : Option (List Float)) where
@@ -110,10 +110,10 @@ module _ (R : Receptions) (S : Subset) (previous : Option (List Float)) where
 
   -- each is what a round's `best_fit` answers exactly when it is so; 6 where "a Cholesky of covariance .. fails"
   pub record AnsweredOver : Type 0 where
-    pub found : R .n ≤ 32 → (fit : Fit) → (bestFitOver R S previous ≡ gives fit)
+    pub found : R .n ≤ mostReceptions → (fit : Fit) → (bestFitOver R S previous ≡ gives fit)
         ↔ ((l : List Float) × (i : ℕ) × IsBestOver fit l i)
-    pub ambiguous : (bestFitOver R S previous ≡ fails Ambiguous) ↔ Whitened Rivalled
-    pub noConvergence : (bestFitOver R S previous ≡ fails NoConvergence) ↔ Whitened NoneConverges
-    pub outOfRange : (bestFitOver R S previous ≡ fails OutOfRange) ↔ Whitened NonePlausible
-    pub singular : (bestFitOver R S previous ≡ fails Singular)
+    pub ambiguous : (bestFitOver R S previous ≡ refuses Ambiguous) ↔ Whitened Rivalled
+    pub noConvergence : (bestFitOver R S previous ≡ refuses NoConvergence) ↔ Whitened NoneConverges
+    pub outOfRange : (bestFitOver R S previous ≡ refuses OutOfRange) ↔ Whitened NonePlausible
+    pub singular : (bestFitOver R S previous ≡ refuses Singular)
         ↔ ((l : List Float) × (whitenerOver R S ≡ factor.refused l))

@@ -9,7 +9,7 @@ use lib.Ieee.{Float}
 use Rattle.binary64.specs.Steps.{nought}
 use Rattle.dense.specs.Factor.{Factor}
 use Rattle.linalg.specs.Methods.{zeros}
-use Rattle.sets.specs.Sets.{Subset, count, membersTo}
+use Rattle.sets.specs.Sets.{Subset, count, membersTo, mostReceptions}
 use Rattle.problem.specs.declared.Altitude.{Altitude}
 use Rattle.problem.specs.declared.Problem.{Problem}
 use Rattle.problem.specs.Gathered.{gatherTo, sitesTo}
@@ -18,7 +18,7 @@ use Rattle.whitening.specs.Whitened.{Chosen}
 use Rattle.damped.specs.declared.Fit.{Fit}
 use Rattle.starts.specs.Starts.{startsAfter}
 use Rattle.best.specs.declared.Unfit.{Unfit}
-use Rattle.best.specs.Best.{Outcome, best, whitened}
+use Rattle.best.specs.Best.{Outcome, best, withWhitener}
 
 -- what a fit reads of a problem: its n receptions by their sites, z, noise and clock covariance, and the altitude
 pub record Receptions : Type 0 where
@@ -28,16 +28,6 @@ pub record Receptions : Type 0 where
   pub noise : List Float
   pub clock : List Float
   pub altitude : Altitude
-
-abbrev pub receptions : List Float → List Float → List Float → List Float → ℕ → Altitude → Receptions
-receptions site z noise clock n altitude = record {
-  n = n;
-  site = site;
-  z = z;
-  noise = noise;
-  clock = clock;
-  altitude = altitude;
-}
 
 abbrev pub receptionsOf : Problem → Receptions
 receptionsOf P = record {
@@ -51,14 +41,14 @@ receptionsOf P = record {
 
 -- `subset`: those of S below n, ascending; `count S n` of them
 abbrev pub subset : ℕ → Subset → List ℕ
-subset n S = membersTo S (replicate 32 0) n
+subset n S = membersTo S (replicate mostReceptions 0) n
 
 -- their sites, and their z
 abbrev pub subsetSites : List Float → ℕ → Subset → List Float
 subsetSites site n S = sitesTo site (subset n S) (replicate 96 nought) (count S n)
 
 abbrev pub subsetZ : List Float → ℕ → Subset → List Float
-subsetZ z n S = gatherTo z (subset n S) (replicate 32 nought) (count S n)
+subsetZ z n S = gatherTo z (subset n S) (replicate mostReceptions nought) (count S n)
 
 -- over a set S of the receptions R
 module _ (R : Receptions) (S : Subset) where
@@ -93,4 +83,4 @@ module _ (R : Receptions) (S : Subset) where
 
   -- the round's best fit
   unfoldable pub bestFitOver : Option (List Float) → Outcome Unfit Fit
-  bestFitOver previous = whitened whitenerOver (λ l. best (chosenOver l) (startsOver previous))
+  bestFitOver previous = withWhitener whitenerOver (λ l. best (chosenOver l) (startsOver previous))

@@ -6,17 +6,12 @@ use Prim.Native.Nat.{ℕ, zero, suc}
 use lib.Ieee.{Float, le}
 use Rattle.binary64.specs.Steps.{decimal}
 use Rattle.geo.specs.Geo.{fromEcef}
-use Rattle.linalg.specs.Vec3.{sub, norm}
-use Rattle.problem.specs.Problem.{siteAt, position}
+use Rattle.problem.specs.Problem.{position, range}
 use Rattle.limits.specs.Heights.{minHeightM, maxHeightM}
 
 -- `MAX_RANGE_M`
 unfoldable pub maxRangeM : Float
 maxRangeM = decimal 600000 0
-
--- how far a place x is from the i-th site
-abbrev pub range : List Float → List Float → ℕ → Float
-range sites x i = norm (sub x (siteAt sites i))
 
 -- the `all` over the sites, after i of them. Document 01: "Range exactly 600,000 passes."
 unfoldable pub nearTo : List Float → List Float → ℕ → Bool

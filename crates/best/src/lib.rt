@@ -11,21 +11,24 @@ ghost use lib.ListN.{take, replicate};
 ghost use lib.Ieee.{le, lt};
 ghost use Rattle.binary64.specs.Steps.{_⊕_, decimal};
 ghost use Rattle.geo.specs.Geo.{fromEcef};
+ghost use Rattle.geo.specs.Held.{nowhere};
 ghost use Rattle.sets.specs.Sets as sets;
 ghost use Rattle.sets.specs.Mask.{has};
-ghost use Rattle.sets.specs.Choice.{choose, indexOf};
-ghost use Rattle.problem.specs.Problem.{position};
+ghost use Rattle.sets.specs.Choice.{choose};
+ghost use Rattle.sets.specs.Held.{indexOf};
+ghost use Rattle.problem.specs.Problem.{position, range};
 ghost use Rattle.problem.specs.Gathered.{pick};
 ghost use Rattle.limits.specs.Heights.{minHeightM, maxHeightM};
 ghost use Rattle.linalg.specs.Methods.{zeros};
 ghost use Rattle.whitening.specs.Covariance.{whitener};
-ghost use Rattle.whitening.specs.Whitened.{Chosen, chosen};
+ghost use Rattle.whitening.specs.Whitened.{Chosen};
+ghost use Rattle.whitening.specs.Held.{chosen};
 ghost use Rattle.damped.specs.Damped.{unfitted, levenbergMarquardt};
-ghost use Rattle.damped.specs.Placed.{nowhere, placed};
-ghost use Rattle.best.specs.Plausible.{maxRangeM, range, nearTo, plausible};
-ghost use Rattle.best.specs.Best.{fails, distance, explainsAlike, fitAt, cheaper, any, weighed, bestOf, judged};
-ghost use Rattle.best.specs.Best.{pointsTo, bestFit};
-ghost use Rattle.best.specs.Held.{EachPlaced, fitsOf, arrayOf, asBestAt};
+ghost use Rattle.damped.specs.Held.{placed};
+ghost use Rattle.best.specs.Plausible.{maxRangeM, nearTo, plausible};
+ghost use Rattle.best.specs.Best.{refuses, distance, explainsAlike, fitAt, cheaper, anyFit, weighed, bestOf};
+ghost use Rattle.best.specs.Best.{judged};
+ghost use Rattle.best.specs.Held.{EachPlaced, fitsOf, arrayOf, asBestAt, pointsTo, bestFit};
 use damped::Fit;
 use damped::Placed;
 use geo::Geodetic;
@@ -238,7 +241,7 @@ fn best_of(fits: [Placed; 18], mask: u32, count: usize) -> usize
 // Whether one of the fits converged.
 fn converged(fits: [Placed; 18], count: usize) -> bool
     requires { ⌜ count ≤ 18 ⌝ }
-    ensures { λ r. ⌜ r ≡ any (λ fit. fit .ok) (take count (fitsOf fits)) ⌝ }
+    ensures { λ r. ⌜ r ≡ anyFit (λ fit. fit .ok) (take count (fitsOf fits)) ⌝ }
 {
     let mut so_far = false;
     for i in 0..count {
@@ -288,7 +291,7 @@ fn rivalled(fits: [Placed; 18], mask: u32, best: Fit, count: usize) -> bool
 }
 
 fn refused(why: Unfit) -> BestAt
-    ensures { λ r. ⌜ ((C : Chosen) → r ≡ asBestAt C (fails why)) ⌝ }
+    ensures { λ r. ⌜ ((C : Chosen) → r ≡ asBestAt C (refuses why)) ⌝ }
 {
     let fit = no_fit();
     let best = Best {

@@ -3,7 +3,7 @@ ghost use mathlib.Core.Path.{_≡_};
 ghost use Prim.Native.Nat.{_≤_};
 ghost use Rattle.geo.specs.Geo.{fromEcef};
 ghost use Rattle.problem.specs.Problem.{position};
-ghost use Rattle.whitening.specs.Whitened.{chosen};
+ghost use Rattle.whitening.specs.Held.{chosen};
 ghost use Rattle.best.specs.Held.{normAt};
 use geo::Geodetic;
 use problem::Altitude;

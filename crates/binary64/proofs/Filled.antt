@@ -8,7 +8,8 @@ use native.Mathlib.Omega.{arith}
 use lib.ListN.{length, getD, length-set}
 use lib.Seq.{getD-set-same, getD-set-other, ext-getD}
 use lib.Ieee.{Float, nan}
-use Rattle.binary64.specs.Root.{root, rootsTo}
+use Rattle.binary64.specs.Root.{root}
+use Rattle.binary64.specs.Held.{rootsTo}
 use Rattle.binary64.proofs.Nearer.{either}
 
 module _ (d out : List Float) where

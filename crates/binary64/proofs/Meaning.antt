@@ -15,7 +15,8 @@ use lib.Ieee.Exact.{HasValue, units-val, round-exact}
 use lib.Ieee.Back.{round-whole, whole-unique}
 use lib.Ieee.Bits.{ofBits-fits}
 use Rattle.binary64.specs.Steps.{isFinite}
-use Rattle.binary64.specs.Root.{root, rootUnits, Nearest}
+use Rattle.binary64.specs.Root.{root, rootUnits}
+use Rattle.binary64.specs.Held.{Nearest}
 use Rattle.binary64.specs.Rounding.{halfAway}
 use Rattle.binary64.specs.Meaning.{IsBinary64, HasUnits, FiniteHasUnits, Nearer, NearestRoot, RootIsNearest, RootElsewhere, RoundedHalfAway}
 use Rattle.binary64.specs.Meaning.{RoundsHalfAway, OthersPassThrough}

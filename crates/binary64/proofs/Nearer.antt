@@ -9,7 +9,7 @@ use native.Mathlib.Nat.{mul-le-mul-right, mul-lt-mul-of-pos-right, lt-of-mul-lt-
 use native.Mathlib.Omega.{arith}
 use lib.Dec.{T, leb, leb→le, nleb→lt}
 use lib.Pow.{pow-add, pow-pos, pow-mono, shl-lt}
-use Rattle.binary64.specs.Root.{Nearest}
+use Rattle.binary64.specs.Held.{Nearest}
 
 -- which grid m * 2 ^ j lies on, beside 2 ^ h
 pub either : (h j : ℕ) → (h ≤ j) ⊎ (j < h)

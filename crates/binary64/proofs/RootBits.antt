@@ -7,7 +7,8 @@ use mathlib.Core.Bool.{false}
 use lib.Pow.{pow-add, pow-pos}
 use lib.Bits.{bitAnd, and-mask, mask-lt}
 use lib.Ieee.{binary64, ofBits, ofFields}
-use Rattle.binary64.specs.Root.{root, rootUnits, Nearest}
+use Rattle.binary64.specs.Root.{root, rootUnits}
+use Rattle.binary64.specs.Held.{Nearest}
 use Rattle.binary64.proofs.Shift.{range}
 use Rattle.binary64.proofs.Decode.{clear, fields-mid, root-value}
 use Rattle.binary64.proofs.RootLaw.{root-law}

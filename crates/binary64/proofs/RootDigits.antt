@@ -8,7 +8,8 @@ use native.Mathlib.Omega.{arith}
 use lib.Pow.{pow-add, pow-mono, shl-lt}
 use lib.Ieee.{size}
 use lib.Ieee.Digits.{size-lt, size-reaches, size-le}
-use Rattle.binary64.specs.Root.{floorRoot, Nearest}
+use Rattle.binary64.specs.Root.{floorRoot}
+use Rattle.binary64.specs.Held.{Nearest}
 use Rattle.binary64.proofs.Squares.{Floored, sq-lt}
 use Rattle.binary64.proofs.Floor.{floored}
 use Rattle.binary64.proofs.Nearer.{either}

@@ -11,7 +11,8 @@ use lib.Arith.{lt-of-le-ne}
 use lib.Pow.{pow-add, pow-pos, pow-mono, shl-lt}
 use lib.Ieee.{Float, binary64, size, nearest, units}
 use lib.Ieee.Digits.{size-lt, size-le}
-use Rattle.binary64.specs.Root.{floorRoot, rootUnits, Nearest}
+use Rattle.binary64.specs.Root.{floorRoot, rootUnits}
+use Rattle.binary64.specs.Held.{Nearest}
 use Rattle.binary64.proofs.Squares.{Floored, sq-lt, nearest-unique, nearest-low, nearest-high, no-tie}
 use Rattle.binary64.proofs.Floor.{floored}
 

@@ -3,3 +3,4 @@ pub mod Within
 pub mod Root
 pub mod Rounding
 pub mod Meaning
+pub mod Held

@@ -1,10 +1,8 @@
 -- Document 01, "Square root by IEEE 754: the binary64 nearest the exact root, ties to even, -0 gives -0, negatives give
 -- not-a-number", worked out over whole numbers. Definitions only; Meaning.antt says what they come to.
-use Prim.Native.Nat.{ℕ, zero, suc, _+_, _-_, _*_, _/_, _^_, _≤_, _<_, compare}
+use Prim.Native.Nat.{ℕ, zero, suc, _+_, _-_, _*_, _/_, _^_, compare}
 use mathlib.Core.Bool.{false, cond}
-use mathlib.Core.List.{List}
 use lib.Dec.{leb, eqb}
-use lib.ListN.{getD, set}
 use lib.Ieee.{Float, nan, inf, fin, binary64, prec, low, up, down, size, nearest, units}
 
 -- the floored root of an n of at most d binary digits, digit by digit: twice the floored root of n / 4, or one more
@@ -36,13 +34,3 @@ unfolding rootUnits
 root nan = nan
 root (inf s) = cond s nan (inf false)
 root (fin s m e) = cond (eqb m 0) (fin s m e) (cond s nan (rootUnits (m * up e * 2 ^ (2 * low binary64) / down e)))
-
--- the array out with the roots of d 0, .., d (k - 1) in its first k places
-unfoldable pub rootsTo : List Float → List Float → ℕ → List Float
-rootsTo d out zero = out
-rootsTo d out (suc k) = set (rootsTo d out k) k (root (getD d k nan))
-
--- what the inner functions of src/square_root.rt promise each other: r is the whole number nearest to the root of w, (r
--- - 1/2) ^ 2 < w < (r + 1/2) ^ 2, multiplied out over whole numbers
-abbrev pub Nearest : ℕ → ℕ → Type 0
-Nearest w r = (r * r < w + r) × (w ≤ r * r + r)

@@ -6,42 +6,43 @@ use lib.Dec.{T}
 use lib.Ieee.{Float}
 use Rattle.geo.specs.Geo.{fromEcef}
 use Rattle.geo.specs.declared.Geodetic.{Geodetic}
+use Rattle.geo.specs.Held.{nowhere}
 use Rattle.problem.specs.Problem.{position}
 use Rattle.problem.specs.declared.Altitude.{Altitude}
 use Rattle.problem.specs.declared.Altitude.the-variants.{Barometric, Gnss}
-use Rattle.whitening.specs.Whitened.{placeOf}
+use Rattle.whitening.specs.Held.{rowPlace}
 use Rattle.whitening.specs.declared.Equations.{Equations}
 use Rattle.damped.specs.declared.Lm.{Lm}
 use Rattle.damped.specs.declared.Stepped.{Stepped}
 use Rattle.damped.specs.declared.Fit.{Fit}
 use Rattle.damped.specs.declared.Placed.{Placed}
 use Rattle.damped.specs.Damped.{descent, small, accepted, rejected, fitted, unfitted, plain}
-use Rattle.damped.specs.Placed.{nowhere, placed}
+use Rattle.damped.specs.Held.{placed}
 
 -- ---- after a step: that of the state where the step is left, that of the candidate where it is taken
 module _ (a : Altitude) (g : Geodetic) (t : Stepped) where
-  pub stays : (s : Lm) → g ≡ placeOf a (s .params) → t ≡ rejected s → g ≡ placeOf a (t .state .params)
+  pub stays : (s : Lm) → g ≡ rowPlace a (s .params) → t ≡ rejected s → g ≡ rowPlace a (t .state .params)
   unfolding rejected
-  stays s e h = e ∙ ap (λ (q : Stepped). placeOf a (q .state .params)) (sym h)
+  stays s e h = e ∙ ap (λ (q : Stepped). rowPlace a (q .state .params)) (sym h)
 
-  pub moves : (lambda : Float) (x p : List Float) (next : Equations) → g ≡ placeOf a p → t ≡ accepted lambda x p next → g
-      ≡ placeOf a (t .state .params)
+  pub moves : (lambda : Float) (x p : List Float) (next : Equations) → g ≡ rowPlace a p → t ≡ accepted lambda x p next → g
+      ≡ rowPlace a (t .state .params)
   unfolding accepted
-  moves lambda x p next e h = e ∙ ap (λ (q : Stepped). placeOf a (q .state .params)) (sym h)
+  moves lambda x p next e h = e ∙ ap (λ (q : Stepped). rowPlace a (q .state .params)) (sym h)
 
 -- ---- at the end: that of the state, where it is a fit
 module _ (a : Altitude) (g : Geodetic) (f : Fit) where
-  pub unfitted-at : f ≡ unfitted → f .ok ≡ true → g ≡ placeOf a (f .params)
+  pub unfitted-at : f ≡ unfitted → f .ok ≡ true → g ≡ rowPlace a (f .params)
   unfitted-at e h = absurd (subst T (sym h ∙ ap (λ (x : Fit). x .ok) e) tt)
 
-  pub fitted-at : (s : Lm) → g ≡ placeOf a (s .params) → f ≡ fitted s → f .ok ≡ true → g ≡ placeOf a (f .params)
-  fitted-at s e d h = e ∙ ap (λ (x : Fit). placeOf a (x .params)) (sym d)
+  pub fitted-at : (s : Lm) → g ≡ rowPlace a (s .params) → f ≡ fitted s → f .ok ≡ true → g ≡ rowPlace a (f .params)
+  fitted-at s e d h = e ∙ ap (λ (x : Fit). rowPlace a (x .params)) (sym d)
 
-  pub plain-at : (s : Lm) → g ≡ placeOf a (s .params) → f ≡ plain s → f .ok ≡ true → g ≡ placeOf a (f .params)
+  pub plain-at : (s : Lm) → g ≡ rowPlace a (s .params) → f ≡ plain s → f .ok ≡ true → g ≡ rowPlace a (f .params)
   unfolding plain
   plain-at s e d h = go (descent (s .information) (s .gradient) .ok && small (descent (s .information) (s .gradient) .x)) d
     where
-      go : (b : Bool) → f ≡ cond b (fitted s) unfitted → g ≡ placeOf a (f .params)
+      go : (b : Bool) → f ≡ cond b (fitted s) unfitted → g ≡ rowPlace a (f .params)
       go true k = fitted-at s e k h
       go false k = unfitted-at k h
 
@@ -62,9 +63,9 @@ module _ (fit : Fit) (g : Geodetic) where
   none-at h e = beside false h e
 
   -- the last step has it, with either altitude
-  module _ (a : Altitude) (metres : Float) (h : fit .ok ≡ true) (e : fit .ok ≡ true → g ≡ placeOf a (fit .params)) where
+  module _ (a : Altitude) (metres : Float) (h : fit .ok ≡ true) (e : fit .ok ≡ true → g ≡ rowPlace a (fit .params)) where
     pub barometric-at : a ≡ Barometric metres → both ≡ placed fit
-    barometric-at k = found-at h (e h ∙ ap (λ (x : Altitude). placeOf x (fit .params)) k)
+    barometric-at k = found-at h (e h ∙ ap (λ (x : Altitude). rowPlace x (fit .params)) k)
 
     pub gnss-at : a ≡ Gnss metres → both ≡ placed fit
-    gnss-at k = found-at h (e h ∙ ap (λ (x : Altitude). placeOf x (fit .params)) k)
+    gnss-at k = found-at h (e h ∙ ap (λ (x : Altitude). rowPlace x (fit .params)) k)

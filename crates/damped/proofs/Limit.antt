@@ -14,9 +14,9 @@ use Rattle.sets.proofs.Tests.{and-l, and-r}
 use Rattle.geo.specs.declared.Geodetic.{Geodetic}
 use Rattle.problem.specs.declared.Altitude.{Altitude}
 use Rattle.problem.specs.declared.Altitude.the-variants.{None, Barometric, Gnss}
-use Rattle.whitening.specs.Whitened.{Chosen, Rows, blank, raw, pushAltitude, whitened}
-use Rattle.whitening.specs.Normal.{costTo, evaluated}
-use Rattle.whitening.specs.Held.{columnOver}
+use Rattle.whitening.specs.Whitened.{Chosen, Rows, noRows, raw, pushAltitude, whitened}
+use Rattle.whitening.specs.Normal.{evaluated}
+use Rattle.whitening.specs.Held.{columnOver, costTo}
 use Rattle.whitening.proofs.Joined.{received}
 use Rattle.whitening.proofs.Over.{Alike, column-alike, cost-alike}
 use Rattle.whitening.proofs.Costs.{cost-is, cost-more, room-left}
@@ -81,7 +81,7 @@ above P p held r part limit k room e f h =
     let w = received P p in
     let like : Alike (P .k) r (w .r) = rw e (column-alike P p k 0 held room) in
     let same : costTo r (P .k) ≡ costTo (w .r) (P .k) = cost-alike r (w .r) (P .k) like (P .k) (omega arith) in
-    let long : length (w .r) ≡ 33 = room-left (P .whitener) (raw (P .sites) (P .z) p 0) blank (P .k) (P .k) in
+    let long : length (w .r) ≡ 33 = room-left (P .whitener) (raw (P .sites) (P .z) p 0) noRows (P .k) (P .k) in
     let high : T (lt limit (costTo (w .r) (P .k))) =
     subst T (sym (ap (λ (v : Float). lt limit v) (sym (f ∙ same)) ∙ h)) tt in
     ap (λ (v : Float). better v limit) (cost-is (whitened P p) (whitened P p .count)) ∙ pushed (P .altitude) _ w limit (omega (arith, long)) high

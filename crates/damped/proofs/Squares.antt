@@ -17,7 +17,7 @@ use Rattle.binary64.proofs.Held.{in-units, is-held, same-units}
 use Rattle.binary64.proofs.Numbers.{add-none, none-add}
 use Rattle.binary64.proofs.Clear.{clear, add-clear, square-clear}
 use Rattle.dense.specs.Entries.{nth}
-use Rattle.whitening.specs.Normal.{costTo}
+use Rattle.whitening.specs.Held.{costTo}
 
 none-square : mul binary64 nan nan ≡ nan
 unfolding mul

@@ -35,8 +35,8 @@ unfoldable pub descent : List Float → List Float → Solved
 descent m gradient = solved (cholesky m 4 (replicate 16 nought)) (four (λ i. neg (nth gradient i)))
 
 -- `candidate`: the parameters after a step x
-unfoldable pub moved : List Float → List Float → List Float
-moved params x = four (λ i. nth params i ⊕ nth x i)
+unfoldable pub candidate : List Float → List Float → List Float
+candidate params x = four (λ i. nth params i ⊕ nth x i)
 
 -- `value.abs() < LM_TOLERANCE_M`, 1e-4: "the step below which it has converged (metres, on every parameter)"
 abbrev pub below : Float → Bool
@@ -78,14 +78,14 @@ rejected s =
 
 -- what a step x gives that is tried: the candidate is taken or not, by its cost
 abbrev pub tried : Chosen → Lm → List Float → List Float → Stepped
-tried P s x candidate = let next = evaluated P candidate in
+tried C s x candidate = let next = evaluated C candidate in
     cond (better (next .cost) (s .cost)) (accepted (s .lambda) x candidate next) (rejected s)
 
--- a turn of the loop over the chosen receptions P: where the damped Cholesky fails the step fails
+-- a turn of the loop over the chosen receptions C: where the damped Cholesky fails the step fails
 unfoldable pub step : Chosen → Lm → Stepped
-step P s =
+step C s =
     let v = descent (dampedTo (s .information) (s .lambda) 4) (s .gradient) in
-    cond (v .ok) (tried P s (v .x) (moved (s .params) (v .x))) (record { state = s; verdict = Failed })
+    cond (v .ok) (tried C s (v .x) (candidate (s .params) (v .x))) (record { state = s; verdict = Failed })
 
 -- `Some(Fit { params, cost, information })`, and `None`
 abbrev pub fitted : Lm → Fit
@@ -118,8 +118,8 @@ after Failed s on = unfitted
 
 -- at most n steps more
 unfoldable pub run : Chosen → ℕ → Lm → Fit
-run P zero s = plain s
-run P (suc n) s = let t = step P s in after (t .verdict) (t .state) (run P n (t .state))
+run C zero s = plain s
+run C (suc n) s = let t = step C s in after (t .verdict) (t .state) (run C n (t .state))
 
 -- the state at a start, where the normal equations are e, with the initial damping `LM_LAMBDA`, 1e-3
 abbrev pub started : List Float → Equations → Lm
@@ -133,4 +133,4 @@ started start e = record {
 
 -- `levenberg_marquardt`, of at most `LM_ITERATIONS` = 50 steps
 unfoldable pub levenbergMarquardt : Chosen → List Float → Fit
-levenbergMarquardt P start = run P 50 (started start (evaluated P start))
+levenbergMarquardt C start = run C 50 (started start (evaluated C start))

@@ -1,2 +1,2 @@
 pub mod Damped
-pub mod Placed
+pub mod Held

@@ -2,10 +2,10 @@
 ghost use mathlib.Core.Path.{_≡_};
 ghost use mathlib.Core.Bool.{true};
 ghost use Prim.Native.Nat.{_≤_};
-ghost use Rattle.whitening.specs.Whitened.{chosen, placeOf};
-ghost use Rattle.whitening.specs.Held.{Scratch};
+ghost use Rattle.geo.specs.Held.{nowhere};
+ghost use Rattle.whitening.specs.Held.{Scratch, rowPlace, chosen};
 ghost use Rattle.damped.specs.Damped.{fitted, unfitted, plain, started, run, levenbergMarquardt};
-ghost use Rattle.damped.specs.Placed.{nowhere, placed};
+ghost use Rattle.damped.specs.Held.{placed};
 use crate::Fit;
 use crate::LM_ITERATIONS;
 use crate::LM_LAMBDA;
@@ -104,11 +104,11 @@ fn run(
     c: &mut [f64; 33],
     d: &mut [f64; 33],
 ) -> Placed
-    requires { ⌜ (k ≤ 32) × (place ≡ placeOf altitude (start .params)) ⌝ }
+    requires { ⌜ (k ≤ 32) × (place ≡ rowPlace altitude (start .params)) ⌝ }
     requires { ⌜ Scratch (now r) (now squared) (now ranges) (now a) (now b) (now c) (now d) ⌝ }
     ensures { λ r. ⌜ r .fit ≡ run (chosen k (now (sites .entry)) (now (z .entry)) (now (l .entry))
         altitude) 50 start ⌝ }
-    ensures { λ r. ⌜ ((r .fit .ok ≡ true) → r .place ≡ placeOf altitude (r .fit .params)) ⌝ }
+    ensures { λ r. ⌜ ((r .fit .ok ≡ true) → r .place ≡ rowPlace altitude (r .fit .params)) ⌝ }
 {
     let mut state = start;
     let mut at = place;
@@ -143,7 +143,7 @@ fn run(
 
 // A fit beside its place, which the last step that was taken has where there is an altitude.
 fn placed(fit: Fit, place: Geodetic, altitude: Altitude) -> Placed
-    requires { ⌜ ((fit .ok ≡ true) → place ≡ placeOf altitude (fit .params)) ⌝ }
+    requires { ⌜ ((fit .ok ≡ true) → place ≡ rowPlace altitude (fit .params)) ⌝ }
     ensures { λ r. ⌜ r ≡ placed fit ⌝ }
 {
     if fit.ok {
@@ -182,11 +182,11 @@ fn refined(
     c: &mut [f64; 33],
     d: &mut [f64; 33],
 ) -> Placed
-    requires { ⌜ (k ≤ 32) × (at ≡ placeOf altitude start) ⌝ }
+    requires { ⌜ (k ≤ 32) × (at ≡ rowPlace altitude start) ⌝ }
     requires { ⌜ Scratch (now r) (now squared) (now ranges) (now a) (now b) (now c) (now d) ⌝ }
     ensures { λ r. ⌜ r .fit ≡ levenbergMarquardt
         (chosen k (now (sites .entry)) (now (z .entry)) (now (l .entry)) altitude) start ⌝ }
-    ensures { λ r. ⌜ ((r .fit .ok ≡ true) → r .place ≡ placeOf altitude (r .fit .params)) ⌝ }
+    ensures { λ r. ⌜ ((r .fit .ok ≡ true) → r .place ≡ rowPlace altitude (r .fit .params)) ⌝ }
 {
     let first = whitening::evaluated(
         sites,

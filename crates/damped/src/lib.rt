@@ -5,9 +5,9 @@ mod fitting;
 pub use fitting::levenberg_marquardt;
 ghost use mathlib.Core.Path.{_≡_};
 ghost use Prim.Native.Nat.{_≤_};
-ghost use Rattle.whitening.specs.Whitened.{chosen, placeOf};
-ghost use Rattle.whitening.specs.Held.{Scratch};
-ghost use Rattle.damped.specs.Damped.{dampedTo, descent, moved, small, better, accepted, rejected, tried, step};
+ghost use Rattle.whitening.specs.Held.{Scratch, rowPlace, chosen};
+ghost use Rattle.damped.specs.Damped.{dampedTo, descent, candidate, small, better, accepted, rejected, tried};
+ghost use Rattle.damped.specs.Damped.{step};
 use geo::Geodetic;
 use problem::Altitude;
 use whitening::Equations;
@@ -110,8 +110,8 @@ fn descent(m: &[f64; 16], gradient: [f64; 4]) -> Solved
 }
 
 // The parameters after a step x.
-fn moved(params: [f64; 4], x: [f64; 4]) -> [f64; 4]
-    ensures { λ r. ⌜ r ≡ moved params x ⌝ }
+fn candidate(params: [f64; 4], x: [f64; 4]) -> [f64; 4]
+    ensures { λ r. ⌜ r ≡ candidate params x ⌝ }
 {
     [
         params[0] + x[0],
@@ -207,11 +207,11 @@ fn tried(
     c: &mut [f64; 33],
     d: &mut [f64; 33],
 ) -> SteppedAt
-    requires { ⌜ (k ≤ 32) × (place ≡ placeOf altitude (state .params)) ⌝ }
+    requires { ⌜ (k ≤ 32) × (place ≡ rowPlace altitude (state .params)) ⌝ }
     requires { ⌜ Scratch (now r) (now squared) (now ranges) (now a) (now b) (now c) (now d) ⌝ }
     ensures { λ r. ⌜ r .stepped ≡ tried (chosen k (now (sites .entry)) (now (z .entry)) (now (l .entry)) altitude)
         state x candidate ⌝ }
-    ensures { λ r. ⌜ r .place ≡ placeOf altitude (r .stepped .state .params) ⌝ }
+    ensures { λ r. ⌜ r .place ≡ rowPlace altitude (r .stepped .state .params) ⌝ }
     ensures { λ _. ⌜ Scratch (now (r .exit)) (now (squared .exit)) (now (ranges .exit)) (now (a .exit)) (now (b .exit))
         (now (c .exit)) (now (d .exit)) ⌝ }
 {
@@ -265,11 +265,11 @@ impl Lm {
         c: &mut [f64; 33],
         d: &mut [f64; 33],
     ) -> SteppedAt
-        requires { ⌜ (k ≤ 32) × (place ≡ placeOf altitude (self .params)) ⌝ }
+        requires { ⌜ (k ≤ 32) × (place ≡ rowPlace altitude (self .params)) ⌝ }
         requires { ⌜ Scratch (now r) (now squared) (now ranges) (now a) (now b) (now c) (now d) ⌝ }
         ensures { λ r. ⌜ r .stepped ≡ step
             (chosen k (now (sites .entry)) (now (z .entry)) (now (l .entry)) altitude) self ⌝ }
-        ensures { λ r. ⌜ r .place ≡ placeOf altitude (r .stepped .state .params) ⌝ }
+        ensures { λ r. ⌜ r .place ≡ rowPlace altitude (r .stepped .state .params) ⌝ }
         ensures { λ _. ⌜ Scratch (now (r .exit)) (now (squared .exit)) (now (ranges .exit)) (now (a .exit))
             (now (b .exit)) (now (c .exit)) (now (d .exit)) ⌝ }
     {
@@ -280,7 +280,7 @@ impl Lm {
         let found = descent(&m, gradient);
         if found.ok {
             let x = found.x;
-            let candidate = moved(params, x);
+            let candidate = candidate(params, x);
             return tried(
                 self,
                 place,

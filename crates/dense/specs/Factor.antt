@@ -1,5 +1,5 @@
 -- `Matrix::cholesky` of linalg.rs: the lower triangular L with A = L Lᵀ, for every size n. Definitions only.
-use mathlib.Core.Bool.{Bool, true, false, cond}
+use mathlib.Core.Bool.{cond}
 use mathlib.Core.List.{List}
 use Prim.Native.Nat.{ℕ, zero, suc, _+_, _-_}
 use lib.Ieee.{Float, lt}
@@ -12,11 +12,6 @@ use Rattle.dense.specs.Entries.{at, put, minusDots}
 pub data Factor : Type 0 where
   found : List Float → Factor
   refused : List Float → Factor
-
--- the verdict as a flag beside the array: `Some` is true, and `None` false
-abbrev pub verdict : Bool → List Float → Factor
-verdict true l = found l
-verdict false l = refused l
 
 -- `for i in j + 1..n`, after m turns: column j below the diagonal. Row i's entry is (A i j - L i 0 * L j 0 - .. - L i
 -- (j - 1) * L j (j - 1)) / root

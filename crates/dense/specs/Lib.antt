@@ -8,3 +8,4 @@ pub mod Sandwich
 pub mod Rows
 pub mod Symmetry
 pub mod Lower
+pub mod Held

@@ -12,7 +12,8 @@ ghost use mathlib.Core.Path.{_≡_};
 ghost use Prim.Native.Nat.{ℕ, _+_, _*_, _-_, _<_, _≤_};
 ghost use lib.ListN.{length};
 ghost use Rattle.dense.specs.Entries.{nth, at, put, minusDots, dots, mulVec};
-ghost use Rattle.dense.specs.Factor.{verdict, columnTo, cholesky};
+ghost use Rattle.dense.specs.Factor.{columnTo, cholesky};
+ghost use Rattle.dense.specs.Held.{verdict};
 ghost use Rattle.dense.specs.Solve.{forward, backward, solve};
 ghost use Rattle.dense.specs.Inverse.{putColumnTo, symmetriseRowTo, symmetriseTo, inverse};
 

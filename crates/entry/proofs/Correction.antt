@@ -32,7 +32,7 @@ use Rattle.rounds.specs.Solve.{number, solveProblem}
 use Rattle.rounds.specs.declared.answer.Refusal.{Refusal}
 use Rattle.rounds.specs.declared.answer.Refusal.the-variants.{TooFew, NoConvergence, OutOfRange, Inconsistent, Singular, Ambiguous, Uncertain}
 use Rattle.record.specs.declared.content.Fix.{Fix}
-use Rattle.record.specs.Record.{Row, from, u8, u16, u32, i64, f64, three-f64, head, kind, metres, blank}
+use Rattle.record.specs.Record.{Row, from, u8, u16, u32, i64, f64, three-f64, head, kind, metres, blankRecord}
 use Rattle.record.specs.Record as shown
 use Rattle.record.proofs.Rows.{last-read}
 use Rattle.entry.specs.Reply.{recordOf, answered, replied, reply}
@@ -71,7 +71,7 @@ rows n altitude f =
 fix-shows : (n : ℕ) (altitude : Altitude) (f : Fix) (bits : ℕ) → bits < 2 ^ 64 → toBits binary64 (metres altitude) ≡ bits
     → u64At (shown.fix n altitude f) 168 ≡ bits
 unfolding shown.fix
-fix-shows n altitude f bits l e = last-read blank (rows n altitude f) 168 (metres altitude) bits (omega arith) l e
+fix-shows n altitude f bits l e = last-read blankRecord (rows n altitude f) 168 (metres altitude) bits (omega arith) l e
 
 either-kind : (first : Bool) (m : Float) → metres (cond first (Barometric m) (Gnss m)) ≡ m
 either-kind true m = refl

@@ -17,7 +17,7 @@ use Rattle.inputs.specs.declared.Fault.the-variants.{TornInput, TooMany, ClockS
 use Rattle.inputs.specs.declared.Check.{Check}
 use Rattle.inputs.specs.declared.Check.the-variants.{Passed, Refused}
 use Rattle.inputs.specs.Faults.{numberOf, detailOf, orElse, unless, firstTo}
-use Rattle.inputs.specs.Inputs.{Inputs, sized, whole, checkReception, checkClock, checkInputs}
+use Rattle.inputs.specs.Inputs.{Inputs, sized, untorn, checkReception, checkClock, checkInputs}
 use Rattle.entry.specs.Reply.{given, turnedAway, replied, reply}
 use Rattle.entry.specs.Cut.{filed, oneTooMany, taken, cutOf, presentBits, CutRepliesAlike}
 use Rattle.entry.proofs.Replies.{made, bare}
@@ -29,13 +29,13 @@ without-n fault n h = ap (made (numberOf fault)) (bare (numberOf fault) (detailO
 -- ---- receptions
 module _ (clock alt ref : Option (List ℕ)) where
   torn-reply : (rs : List ℕ) → (length rs % receptionBytes ≡ 0 → ⊥) → reply (filed rs clock alt ref) ≡ turnedAway TornInput 0
-  unfolding reply checkInputs whole
+  unfolding reply checkInputs untorn
   torn-reply rs h = rw (ne-eqb (length rs % receptionBytes) 0 h) (without-n TornInput (length rs / receptionBytes) (omega arith))
 
   many-reply
       : (rs : List ℕ) → length rs % receptionBytes ≡ 0 → 32 < length rs / receptionBytes
       → reply (filed rs clock alt ref) ≡ turnedAway (cond (sized 16 alt && sized 8 ref) TooMany TornInput) 0
-  unfolding reply checkInputs whole
+  unfolding reply checkInputs untorn
   many-reply rs h l = rw (eq-eqb (length rs % receptionBytes) 0 h, lt-leb (length rs / receptionBytes) 32 l) (go (sized 16 alt && sized 8 ref) _)
     where
       go : (b : Bool) (I : Inputs) → replied (orElse (unless b TornInput) (Refused TooMany)) I ≡ turnedAway (cond b TooMany TornInput) 0
@@ -105,7 +105,7 @@ module _ (rs : List ℕ) (alt ref : Option (List ℕ)) where
   clock-long b h l = rw (ne-eqb (length b) (8 * (n * n)) (λ e. omega (arith, room n l)))
 
   check-long : (b : List ℕ) → 8192 < length b → checkInputs (filed rs (some b) alt ref) ≡ long
-  unfolding checkInputs whole
+  unfolding checkInputs untorn
   check-long b h = go (leb n 32) refl
     where
       go : (t : Bool) → leb n 32 ≡ t → checkInputs (filed rs (some b) alt ref) ≡ long
@@ -128,7 +128,7 @@ module _ (rs : List ℕ) (alt ref : Option (List ℕ)) where
 -- ---- the altitude and the reference: one byte too many stands for every greater length
 module _ (rs : List ℕ) (clock : Option (List ℕ)) where
   torn-by : (alt ref : Option (List ℕ)) → sized 16 alt && sized 8 ref ≡ false → reply (filed rs clock alt ref) ≡ turnedAway TornInput 0
-  unfolding reply checkInputs whole
+  unfolding reply checkInputs untorn
   torn-by alt ref e = rw e (go (eqb (length rs % receptionBytes) 0) _)
     where
       go : (t : Bool) (later : Check) → replied (orElse (unless (t && false) TornInput) later) (filed rs clock alt ref) ≡ turnedAway TornInput 0

@@ -13,7 +13,7 @@ use Rattle.inputs.specs.declared.Fault.the-variants.{TornInput, TooMany}
 use Rattle.inputs.specs.declared.Check.{Check}
 use Rattle.inputs.specs.declared.Check.the-variants.{Passed, Refused}
 use Rattle.inputs.specs.Faults.{numberOf, detailOf, orElse, unless}
-use Rattle.inputs.specs.Inputs.{Inputs, whole, checkInputs, problemOf}
+use Rattle.inputs.specs.Inputs.{Inputs, untorn, checkInputs, problemOf}
 use Rattle.inputs.proofs.Check as check
 use Rattle.inputs.proofs.Order.{is-whole}
 use Rattle.rounds.specs.declared.answer.Answer as code
@@ -21,7 +21,8 @@ use Rattle.rounds.specs.declared.answer.Case.{Case}
 use Rattle.rounds.specs.declared.answer.Case.the-variants as case
 use Rattle.rounds.specs.declared.answer.Refusal.{Refusal}
 use Rattle.rounds.specs.Setting.{Answer, fix, refused, noFixedPoint}
-use Rattle.rounds.specs.Solve.{asAnswer, refusalNumber, refusalDetail, solveProblem}
+use Rattle.rounds.specs.Solve.{refusalNumber, refusalDetail, solveProblem}
+use Rattle.rounds.specs.Held.{asAnswer}
 use Rattle.rounds.proofs.answer.Case as cases
 use Rattle.record.specs.declared.content.Fix.{Fix}
 use Rattle.record.specs.Record.{refusal}
@@ -98,7 +99,7 @@ bare-reply r fault k d n f g l h = away-reply r fault k d 0 f g h ∙ ap (made (
 -- more than 32 receptions are turned away by 15 or 10
 pub many-away : (I : Inputs) (fault : Fault) → checkInputs I ≡ Refused fault → 32 < I .n → 9 < numberOf fault
 unfolding checkInputs
-many-away I fault e h = go (whole I) (rw (lt-leb (I .n) 32 h) at e)
+many-away I fault e h = go (untorn I) (rw (lt-leb (I .n) 32 h) at e)
   where
     go : (b : Bool) → orElse (unless b TornInput) (Refused TooMany) ≡ Refused fault → 9 < numberOf fault
     go true q = let z : TooMany ≡ fault = cc in rw (← z) (omega arith)
@@ -107,10 +108,10 @@ many-away I fault e h = go (whole I) (rw (lt-leb (I .n) 32 h) at e)
 -- ---- the reply to the inputs
 
 -- the receptions of inputs that pass came whole
-abbrev pub untorn : Inputs → Inputs
-untorn I = record { whole = true; n = I .n; at = I .at; clock = I .clock; altitude = I .altitude; reference = I .reference }
+abbrev pub not-torn : Inputs → Inputs
+not-torn I = record { whole = true; n = I .n; at = I .at; clock = I .clock; altitude = I .altitude; reference = I .reference }
 
-pub came-whole : (I : Inputs) → checkInputs I ≡ Passed → checkInputs (untorn I) ≡ Passed
+pub came-whole : (I : Inputs) → checkInputs I ≡ Passed → checkInputs (not-torn I) ≡ Passed
 came-whole I e = subst (λ (w : Bool). checkInputs (record {
   whole = w;
   n = I .n;
@@ -120,7 +121,7 @@ came-whole I e = subst (λ (w : Bool). checkInputs (record {
   reference = I .reference;
 }) ≡ Passed) (is-whole I e) e
 
-pub torn-or-whole : (I : Inputs) → problemOf (untorn I) ≡ problemOf I
+pub torn-or-whole : (I : Inputs) → problemOf (not-torn I) ≡ problemOf I
 unfolding problemOf
 torn-or-whole I = refl
 

@@ -7,7 +7,8 @@ use borrow.Author.Tests.{le-leb, leb-true}
 use lib.Dec.{leb}
 use Rattle.receptions.specs.declared.Reception.{Reception}
 use Rattle.receptions.specs.declared.Fields.{Fields}
-use Rattle.receptions.specs.Receptions.{fieldsOf, Holds}
+use Rattle.receptions.specs.Receptions.{fieldsOf}
+use Rattle.receptions.specs.Held.{Holds}
 
 few-all : (n k : ℕ) → k ≡ cond (leb n 32) n 0 → n ≤ 32 → k ≡ n
 few-all n k e h = e ∙ ap (λ (t : Bool). cond t n 0) (le-leb n 32 h)

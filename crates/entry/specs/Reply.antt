@@ -22,7 +22,7 @@ use Rattle.rounds.specs.Setting.{Answer, fix, refused, noFixedPoint}
 use Rattle.rounds.specs.Solve.{number, detail, solveProblem}
 use Rattle.rounds.specs.Demand.{rounds, remaining, Claim, Demand}
 use Rattle.record.specs.declared.content.Fix.{Fix}
-use Rattle.record.specs.Record.{refusal, stored}
+use Rattle.record.specs.Record.{refusal, stored, recordBytes}
 use Rattle.record.specs.Record as shown
 use Rattle.reader.specs.Stands.{Stands}
 use Rattle.entry.specs.declared.Reply.{Reply}
@@ -70,19 +70,19 @@ reply I = replied (checkInputs I) I
 
 -- 14: "under 176 bytes lent"
 abbrev pub answer : Inputs → List ℕ → ℕ
-answer I out = cond (ltb (length out) 176) shortOutput (reply I .number)
+answer I out = cond (ltb (length out) recordBytes) shortOutput (reply I .number)
 
 -- the output afterwards: for 14 nothing is written
 abbrev pub output : Inputs → List ℕ → List ℕ
-output I out = cond (ltb (length out) 176) out (stored out (reply I .bytes))
+output I out = cond (ltb (length out) recordBytes) out (stored out (reply I .bytes))
 
 -- Demand 3, of the bytes that are written: they are the record of an answer that meets it, and no other answer meets
 -- its claim. Of a fix, each value that `Found` speaks of stands at its place among them.
 pub record Demanded (P : Problem) (out : List ℕ) : Type 0 where
   pub answer : Answer Fix
   pub demand : Demand P answer
-  pub written : take 176 out ≡ recordOf (P .n) (P .shown) answer
-  pub shows : (x : Fix) → answer ≡ fix x → Stands (take 176 out) (P .n) (P .shown) x
+  pub written : take recordBytes out ≡ recordOf (P .n) (P .shown) answer
+  pub shows : (x : Fix) → answer ≡ fix x → Stands (take recordBytes out) (P .n) (P .shown) x
   pub alone : (other : Answer Fix) → Claim (rounds P) (remaining P) other → other ≡ answer
 
 -- What a solve of the inputs I promises a caller who lends `out`: of the number r that it gives, and of `after`, which
@@ -90,4 +90,4 @@ pub record Demanded (P : Problem) (out : List ℕ) : Type 0 where
 pub record Promise (I : Inputs) (out : List ℕ) (r : ℕ) (after : List ℕ) : Type 0 where
   pub answer : r ≡ answer I out
   pub output : after ≡ output I out
-  pub demand : checkInputs I ≡ passed → 176 ≤ length out → Demanded (problemOf I) after
+  pub demand : checkInputs I ≡ passed → recordBytes ≤ length out → Demanded (problemOf I) after

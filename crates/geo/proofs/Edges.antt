@@ -16,7 +16,7 @@ use Rattle.libm.specs.Atan.{reduce, series, atan, signs, quarter, quotient, ata
 use Rattle.libm.specs.Hypotenuse.{scaled, hypot}
 use Rattle.libm.specs.Hypotenuse as length
 use Rattle.geo.specs.declared.Geodetic.{Geodetic}
-use Rattle.geo.specs.Geo.{A, F, E2, toRadians, toDegrees, primeVertical, toEcef, height, bowring, roundsTo, fromEcef, enuBasis, millimetres}
+use Rattle.geo.specs.Geo.{A, F, E2, toRadians, toDegrees, primeVertical, toEcef, height, bowring, bowringTo, fromEcef, enuBasis, millimetres}
 use Rattle.geo.specs.Geo.{toMm, metres, fromMm}
 
 abbrev at : Float → Float → Float → Geodetic
@@ -24,20 +24,21 @@ at lat lon h = record { «lat_deg» = lat; «lon_deg» = lon; «height_m» = h }
 
 -- ---- "ECEF (6378137, 0, 0) is latitude, longitude, height 0."
 pub on-the-equator : fromEcef (decimal 6378137 0 ∷ nought ∷ nought ∷ []) ≡ at nought nought nought
-unfolding fromEcef roundsTo bowring height primeVertical toDegrees A E2 F sincos sin cos kSin kCos atan2 signs hypot scaled root high negative switch
+unfolding fromEcef bowringTo bowring height primeVertical toDegrees A E2 F sincos sin cos kSin kCos atan2 signs hypot scaled root high negative switch
     abs neg add sub mul div lt eq ne round ofBits toBits
 on-the-equator = refl
 
 -- a pole, where the height is taken along the axis
 pub at-a-pole : fromEcef (nought ∷ nought ∷ neg (decimal 6356752314245179 9) ∷ []) ≡ at (# 0xC056800000000000) nought nought
-unfolding fromEcef roundsTo bowring height primeVertical toDegrees A E2 F sincos sin cos quadrant kSin kCos qx remPio2 split atan2 signs quarter hypot
+unfolding fromEcef bowringTo bowring height primeVertical toDegrees A E2 F sincos sin cos quadrant kSin kCos qx remPio2 split atan2 signs quarter
+    hypot
     scaled root high negative signed switch abs neg add sub mul div lt le eq ne round ofBits toBits
 at-a-pole = refl
 
 -- an aircraft
 pub aloft : fromEcef (neg (decimal 2694045 0) ∷ neg (decimal 4266893 0) ∷ decimal 38998705 1 ∷ [])
     ≡ at (# 0x4042F12ACC67C563) (# 0xC05E9120DB76F771) (# 0x40BD1274E159EC00)
-unfolding fromEcef roundsTo bowring height primeVertical toDegrees A E2 F sincos sin cos kSin kCos qx atan2 atan reduce series signs quotient hypot
+unfolding fromEcef bowringTo bowring height primeVertical toDegrees A E2 F sincos sin cos kSin kCos qx atan2 atan reduce series signs quotient hypot
     scaled length.medium root high negative signed switch abs neg add sub mul div lt eq ne round ofBits toBits
 aloft = refl
 

@@ -25,7 +25,7 @@ use Rattle.libm.specs.Hypotenuse.{hypot}
 use Rattle.libm.proofs.KernelBounds.{Unit-in}
 use Rattle.libm.proofs.ArcBounds.{arc2, atan2-in, atan2-nan}
 use Rattle.libm.proofs.Meaning.{limit-is, neg-unit, sin-in, cos-in}
-use Rattle.geo.specs.Geo.{toRadians, toDegrees, enuBasis, roundsTo, fromEcef}
+use Rattle.geo.specs.Geo.{toRadians, toDegrees, enuBasis, bowringTo, fromEcef}
 use Rattle.geo.specs.Meaning.{EntriesWithinOne, Turn, BasisOfTurns, DegreesTurn, BasisWithinOne}
 use Rattle.geo.specs.Meaning.{IsNumber, HasPlace, IsFinite, AtCentre, PlacesTurn, PlacesAreNumbers, NoneAtCentre, BasisOfPlaces}
 use Rattle.geo.proofs.Places.{rounds-number, centre}
@@ -159,7 +159,7 @@ place-turns ecef f n =
     let x = getD ecef 0 nan in
     let y = getD ecef 1 nan in
     let z = getD ecef 2 nan in
-    (arc-turn z (roundsTo (hypot x y) z 6 .x) (f 2) (n .0), arc-turn y x (f 1) (n .1))
+    (arc-turn z (bowringTo (hypot x y) z 6 .x) (f 2) (n .0), arc-turn y x (f 1) (n .1))
 
 pub places-turn : PlacesTurn
 places-turn ecef f n = place-turns ecef f n
@@ -174,7 +174,7 @@ module _ (x y z : Float) (f : IsFinite x) (g : IsFinite y) (h : IsFinite z) (n :
   has-place =
       let is : (v : Float) → IsFinite v → Is binary64 v = λ v i. (i .0, is-finite v (i .1)) in
       let number : (v : Float) → IsFinite v → IsNumber v = λ v i. finite-num v (is-finite v (i .1)) in (
-        arc-number z (roundsTo (hypot x y) z 6 .x) (h .0) (number z h) (rounds-number x y z (is x f) (is y g) (is z h) n 6),
+        arc-number z (bowringTo (hypot x y) z 6 .x) (h .0) (number z h) (rounds-number x y z (is x f) (is y g) (is z h) n 6),
         arc-number y x (g .0) (number y g) (number x f),
       )
 

@@ -9,14 +9,15 @@ use lib.Dec.{leb, lit≤}
 use lib.Pow.{pow-add, pow-pos}
 use lib.Ieee.{Float, binary64, ofFields}
 use Rattle.binary64.specs.Steps.{#}
-use Rattle.binary64.specs.Root.{root, rootUnits, Nearest}
+use Rattle.binary64.specs.Root.{root, rootUnits}
+use Rattle.binary64.specs.Held.{Nearest}
 use Rattle.binary64.proofs.BitsLaw.{bits-law}
 use Rattle.binary64.proofs.Decode.{clear, fields-mid, root-value}
 use Rattle.binary64.proofs.RootLaw.{root-law}
-use Rattle.wide.specs.Wide.{valueOf, wideOf}
+use Rattle.wide.specs.Held.{valueOf, wideOf}
 use Rattle.wide.specs.declared.Wide.{Wide}
 use Rattle.wide.proofs.Words.{value-of, within, above}
-use Rattle.geo.specs.NearOne.{BelowOne}
+use Rattle.geo.specs.Held.{BelowOne}
 
 -- h * h taken out
 regroup : (m a h : ℕ) → m * h * (a * h) ≡ m * a * (h * h)

@@ -35,7 +35,7 @@ use Rattle.libm.proofs.ArcBounds.{arc2, neither, zero-in, atan2-in}
 use Rattle.libm.proofs.LengthBounds.{hypot-long}
 use Rattle.libm.proofs.HighWords.{high-finite, at-most, zero-or-least}
 use Rattle.libm.proofs.Meaning.{sin-in, cos-in}
-use Rattle.geo.specs.Geo.{A, F, E2, toDegrees, primeVertical, height, bowring, roundsTo}
+use Rattle.geo.specs.Geo.{A, F, E2, toDegrees, primeVertical, height, bowring, bowringTo}
 
 -- ---- the radius of curvature
 abbrev squared-steps : List Step
@@ -171,10 +171,10 @@ module _ (p z : Float) (P : T (positive p)) (q : Is binary64 z) where
       let ratio = div-num binary64 (E2 ⊗ n) (n ⊕ h) (positive-abs (E2 ⊗ n) (over-positive (decimal 40000 0) (E2 ⊗ n) tt (e .is) (e .least))) sum in
       mul-num binary64 p (one ⊖ E2 ⊗ n ⊘ (n ⊕ h)) (positive-abs p P) (sub-num binary64 one (E2 ⊗ n ⊘ (n ⊕ h)) tt ratio)
 
-  off-axis : (k : ℕ) → Num (roundsTo p z k .x)
-  unfolding roundsTo E2 F ofBits round sub add neg mul div isNan
+  off-axis : (k : ℕ) → Num (bowringTo p z k .x)
+  unfolding bowringTo E2 F ofBits round sub add neg mul div isNan
   off-axis zero = mul-num binary64 p (one ⊖ E2) (positive-abs p P) tt
-  off-axis (suc k) = next-number (roundsTo p z k .x) (off-axis k)
+  off-axis (suc k) = next-number (bowringTo p z k .x) (off-axis k)
 
 -- ---- p infinite: the latitude is 0
 nonzero : (z : Float) → T (positive (abs z)) → eq z nought ≡ false
@@ -220,8 +220,8 @@ unfolding bowring height primeVertical A E2 F sincos sin cos kSin kCos high root
 next-infinite z lat (inl e) = ap (λ (v : Float). bowring (inf false) z v .x) e
 next-infinite z lat (inr e) = ap (λ (v : Float). bowring (inf false) z v .x) e
 
-infinite : (z : Float) → Is binary64 z → (k : ℕ) → roundsTo (inf false) z k .x ≡ inf false
-unfolding roundsTo E2 F ofBits round sub add neg mul div
+infinite : (z : Float) → Is binary64 z → (k : ℕ) → bowringTo (inf false) z k .x ≡ inf false
+unfolding bowringTo E2 F ofBits round sub add neg mul div
 infinite z q zero = refl
 infinite z q (suc k) = ap (λ (v : Float). bowring (inf false) z (atan2 z v) .x) (infinite z q k) ∙ next-infinite z (atan2 z (inf false)) (flat z q)
 
@@ -291,11 +291,11 @@ zero-in-of v i = elim (zero-or-least v (i .is)) [
       absurd (fails (le (# 1) nought) refl (le-trans-is binary64 (# 1) (abs v) nought (tt, tt) (abs-is v (i .is)) (tt, tt) o w))
 ]
 
-on-axis : (z : Float) → Is binary64 z → T (le (# 1) (abs z)) → (k : ℕ) → Zero (roundsTo nought z k .x)
-unfolding roundsTo E2 F ofBits round sub add neg mul div fits
+on-axis : (z : Float) → Is binary64 z → T (le (# 1) (abs z)) → (k : ℕ) → Zero (bowringTo nought z k .x)
+unfolding bowringTo E2 F ofBits round sub add neg mul div fits
 on-axis z q o zero = inl refl
 on-axis z q o (suc k) =
-    let x = roundsTo nought z k .x in
+    let x = bowringTo nought z k .x in
     let i : In binary64 (# 1) greatest (abs z) = record { lo-is = (tt, tt); hi-is = (tt, tt); is = abs-is z q; least = o; most = at-most z q } in
     zero-in-of _
     (subst (In binary64 nought nought)
@@ -315,7 +315,7 @@ zero-eq v p h = elim (zero-of v p h) [
   | inr e ↦ subst (λ (z : Float). T (eq z nought)) (sym e) tt
 ]
 
-far-number : (p z : Float) → T (above p) → Is binary64 z → (k : ℕ) → Num (roundsTo p z k .x)
+far-number : (p z : Float) → T (above p) → Is binary64 z → (k : ℕ) → Num (bowringTo p z k .x)
 unfolding isNan
 far-number nan z a q k = absurd a
 far-number (inf true) z a q k = absurd a
@@ -324,11 +324,11 @@ far-number (fin true m e) z a q k = absurd a
 far-number (fin false m e) z a q k = off-axis (fin false m e) z a q k
 
 pub rounds-number : (x y z : Float) → Is binary64 x → Is binary64 y → Is binary64 z → (T (eq x nought && (eq y nought && eq z nought)) → ⊥) → (k : ℕ)
-    → Num (roundsTo (hypot x y) z k .x)
+    → Num (bowringTo (hypot x y) z k .x)
 rounds-number x y z p q r n k = elim (hypot-long x y p q) [
   | inl a ↦ far-number (hypot x y) z a r k
   | inr a ↦
-      subst (λ (v : Float). Num (roundsTo v z k .x)) (sym (a .2))
+      subst (λ (v : Float). Num (bowringTo v z k .x)) (sym (a .2))
       (elim (zero-or-least z r) [
         | inl e ↦
             absurd (n (and-i (eq x nought) (eq y nought && eq z nought) (zero-eq x p (a .0))
@@ -348,17 +348,17 @@ no-length x y (inl e) (inr d) = ap (λ (v : Float). hypot v y) e ∙ ap (hypot n
 no-length x y (inr e) (inl d) = ap (λ (v : Float). hypot v y) e ∙ ap (hypot (neg nought)) d
 no-length x y (inr e) (inr d) = ap (λ (v : Float). hypot v y) e ∙ ap (hypot (neg nought)) d
 
-no-latitude : (z : Float) → Zero z → toDegrees (atan2 z (roundsTo nought z 6 .x)) ≡ nan
-unfolding toDegrees roundsTo bowring height primeVertical A E2 F sincos sin cos kSin kCos atan2 signs high negative switch root abs neg add sub mul
+no-latitude : (z : Float) → Zero z → toDegrees (atan2 z (bowringTo nought z 6 .x)) ≡ nan
+unfolding toDegrees bowringTo bowring height primeVertical A E2 F sincos sin cos kSin kCos atan2 signs high negative switch root abs neg add sub mul
     div lt le eq ne round ofBits toBits
-no-latitude z (inl e) = ap (λ (v : Float). toDegrees (atan2 v (roundsTo nought v 6 .x))) e
-no-latitude z (inr e) = ap (λ (v : Float). toDegrees (atan2 v (roundsTo nought v 6 .x))) e
+no-latitude z (inl e) = ap (λ (v : Float). toDegrees (atan2 v (bowringTo nought v 6 .x))) e
+no-latitude z (inr e) = ap (λ (v : Float). toDegrees (atan2 v (bowringTo nought v 6 .x))) e
 
 pub centre : (x y z : Float) → T (fits binary64 x) → T (fits binary64 y) → T (fits binary64 z) → T (eq x nought && (eq y nought && eq z nought))
-    → toDegrees (atan2 z (roundsTo (hypot x y) z 6 .x)) ≡ nan
+    → toDegrees (atan2 z (bowringTo (hypot x y) z 6 .x)) ≡ nan
 centre x y z f g h t =
     let u = and-l (eq x nought) (eq y nought && eq z nought) t in
     let v = and-r (eq x nought) (eq y nought && eq z nought) t in
-    ap (λ (p : Float). toDegrees (atan2 z (roundsTo p z 6 .x)))
+    ap (λ (p : Float). toDegrees (atan2 z (bowringTo p z 6 .x)))
     (no-length x y (zero-test x f u) (zero-test y g (and-l (eq y nought) (eq z nought) v)))
     ∙ no-latitude z (zero-test z h (and-r (eq y nought) (eq z nought) v))

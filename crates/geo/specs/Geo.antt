@@ -67,9 +67,9 @@ bowring p z lat =
     record { height = h; x = p ⊗ (one ⊖ E2 ⊗ n ⊘ (n ⊕ h)) }
 
 -- the loop of `from_ecef`, before it and after k rounds. Its `lat` is `atan2 z x` at every turn.
-unfoldable pub roundsTo : Float → Float → ℕ → Round
-roundsTo p z zero = record { height = nought; x = p ⊗ (one ⊖ E2) }
-roundsTo p z (suc k) = bowring p z (atan2 z (roundsTo p z k .x))
+unfoldable pub bowringTo : Float → Float → ℕ → Round
+bowringTo p z zero = record { height = nought; x = p ⊗ (one ⊖ E2) }
+bowringTo p z (suc k) = bowring p z (atan2 z (bowringTo p z k .x))
 
 -- `from_ecef`. Document 01: "`from_ecef` makes six rounds."
 unfoldable pub fromEcef : List Float → Geodetic
@@ -77,7 +77,7 @@ fromEcef ecef =
     let x = getD ecef 0 nan in
     let y = getD ecef 1 nan in
     let z = getD ecef 2 nan in
-    let last = roundsTo (hypot x y) z 6 in
+    let last = bowringTo (hypot x y) z 6 in
     record { «lat_deg» = toDegrees (atan2 z (last .x)); «lon_deg» = toDegrees (atan2 y x); «height_m» = last .height }
 
 -- `enu_basis`: east, north and up

@@ -1,3 +1,3 @@
 pub mod Geo
-pub mod NearOne
 pub mod Meaning
+pub mod Held

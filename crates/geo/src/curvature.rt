@@ -4,9 +4,10 @@
 ghost use mathlib.Core.Path.{_≡_};
 ghost use mathlib.Core.Bool.{true};
 ghost use Prim.Native.Nat.{_*_, _^_, _<_};
-ghost use Rattle.binary64.specs.Root.{root, Nearest};
+ghost use Rattle.binary64.specs.Root.{root};
+ghost use Rattle.binary64.specs.Held.{Nearest};
 ghost use Rattle.geo.specs.Geo.{primeVertical};
-ghost use Rattle.geo.specs.NearOne.{BelowOne};
+ghost use Rattle.geo.specs.Held.{BelowOne};
 use crate::A;
 use crate::E2;
 use wide::Wide;

@@ -14,7 +14,8 @@ use Rattle.sets.specs.Mask.{has}
 use Rattle.receptions.specs.declared.Reception.{Reception}
 use Rattle.receptions.specs.declared.Fields.{Fields}
 use Rattle.receptions.specs.Identities.{ascends}
-use Rattle.receptions.specs.Receptions.{fillTo, floats, fieldsOf, siteIn}
+use Rattle.receptions.specs.Receptions.{fillTo, floats, fieldsOf}
+use Rattle.receptions.specs.Held.{siteIn}
 use Rattle.receptions.proofs.Filling.{fill-same}
 use Rattle.receptions.proofs.Unpacked.{ascending-held, time-held, z-held, noise-held, filler-held, site-held}
 use Rattle.inputs.specs.declared.Given.{Given}
@@ -22,7 +23,7 @@ use Rattle.inputs.specs.declared.Fault.the-variants.{Disorder, BadField}
 use Rattle.inputs.specs.declared.Check.{Check}
 use Rattle.inputs.specs.Faults.{orElse, unless, firstTo}
 use Rattle.inputs.specs.Domain.{goodTime, goodSite, goodZ, goodNoise, goodReception}
-use Rattle.inputs.specs.Inputs.{inputsOf, checkReception, whole, checkInputs, metresOf}
+use Rattle.inputs.specs.Inputs.{inputsOf, checkReception, untorn, checkInputs, metresOf}
 
 -- the checks, out of the arrays
 abbrev goodBy : ℤ → List ℤ → Float → Float → ℕ → Bool
@@ -74,5 +75,5 @@ pub same-check
     : (f : Fields) (n : ℕ) → n ≤ 32 → (p q : ℕ → Reception) → f ≡ fieldsOf p n → f ≡ fieldsOf q n
     → (came : Bool) (g : Given) (clock altitude reference : List ℕ)
     → checkInputs (inputsOf came n p g clock altitude reference) ≡ checkInputs (inputsOf came n q g clock altitude reference)
-unfolding checkInputs whole
+unfolding checkInputs untorn
 same-check f n few p q a b came g clock altitude reference = rw (sym (first-held f n few p a) ∙ first-held f n few q b)

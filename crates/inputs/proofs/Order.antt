@@ -15,7 +15,7 @@ use Rattle.inputs.specs.declared.Fault.the-variants.{TornInput, TooMany,
 use Rattle.inputs.specs.declared.Check.{Check}
 use Rattle.inputs.specs.declared.Check.the-variants.{Passed, Refused}
 use Rattle.inputs.specs.Faults.{orElse, unless, firstTo}
-use Rattle.inputs.specs.Inputs.{Inputs, given, sized, whole, checkReception, checkRow, checkClock, checkAltitude, checkCovered, checkInputs}
+use Rattle.inputs.specs.Inputs.{Inputs, ifThere, sized, untorn, checkReception, checkRow, checkClock, checkAltitude, checkCovered, checkInputs}
 
 pub both-of : (a b : Bool) → a && b ≡ true → (a ≡ true) × (b ≡ true)
 both-of true true e = (refl, refl)
@@ -35,25 +35,25 @@ pub is-passed : (k : Check) → denote.Enum.Declared.tagOf Rattle·inputs·proof
 is-passed Passed e = refl
 is-passed (Refused fault) e = absurd (omega arith)
 
-pub covered-by : (there : Bool) (b : List ℕ) → unless there Uncovered ≡ checkCovered (given there b)
+pub covered-by : (there : Bool) (b : List ℕ) → unless there Uncovered ≡ checkCovered (ifThere there b)
 covered-by true b = refl
 covered-by false b = refl
 
 module _ (I : Inputs) where
-  pub torn-1 : I .whole ≡ false → whole I ≡ false
-  unfolding whole
+  pub torn-1 : I .whole ≡ false → untorn I ≡ false
+  unfolding untorn
   torn-1 e = rw e
 
-  pub torn-2 : sized 16 (I .altitude) ≡ false → whole I ≡ false
-  unfolding whole
+  pub torn-2 : sized 16 (I .altitude) ≡ false → untorn I ≡ false
+  unfolding untorn
   torn-2 e = go (I .whole)
     where
       go : (a : Bool) → a && (sized 16 (I .altitude) && sized 8 (I .reference)) ≡ false
       go true = rw e
       go false = refl
 
-  pub torn-3 : sized 8 (I .reference) ≡ false → whole I ≡ false
-  unfolding whole
+  pub torn-3 : sized 8 (I .reference) ≡ false → untorn I ≡ false
+  unfolding untorn
   torn-3 e = go (I .whole) (sized 16 (I .altitude))
     where
       go : (a b : Bool) → a && (b && sized 8 (I .reference)) ≡ false
@@ -61,8 +61,8 @@ module _ (I : Inputs) where
       go true false = refl
       go false b = refl
 
-  pub all-whole : I .whole ≡ true → sized 16 (I .altitude) ≡ true → sized 8 (I .reference) ≡ true → whole I ≡ true
-  unfolding whole
+  pub all-whole : I .whole ≡ true → sized 16 (I .altitude) ≡ true → sized 8 (I .reference) ≡ true → untorn I ≡ true
+  unfolding untorn
   all-whole e f g = rw (e, f, g)
 
   -- what comes after 15 and 10
@@ -70,22 +70,22 @@ module _ (I : Inputs) where
   later = orElse (firstTo (checkReception (I .at)) (I .n))
       (orElse (checkClock (I .clock) (I .n)) (orElse (checkAltitude (I .altitude)) (checkCovered (I .clock))))
 
-  pub torn : whole I ≡ false → Refused TornInput ≡ checkInputs I
+  pub torn : untorn I ≡ false → Refused TornInput ≡ checkInputs I
   unfolding checkInputs
   torn e = rw e
 
-  pub many : whole I ≡ true → leb (I .n) 32 ≡ false → Refused TooMany ≡ checkInputs I
+  pub many : untorn I ≡ true → leb (I .n) 32 ≡ false → Refused TooMany ≡ checkInputs I
   unfolding checkInputs
   many e f = rw (e, f)
 
-  pub rest : whole I ≡ true → leb (I .n) 32 ≡ true → later ≡ checkInputs I
+  pub rest : untorn I ≡ true → leb (I .n) 32 ≡ true → later ≡ checkInputs I
   unfolding checkInputs
   rest e f = rw (e, f)
 
   module _ (e : checkInputs I ≡ Passed) where
-    after-torn : (unless (whole I) TornInput ≡ Passed) × (orElse (unless (leb (I .n) 32) TooMany) later ≡ Passed)
+    after-torn : (unless (untorn I) TornInput ≡ Passed) × (orElse (unless (leb (I .n) 32) TooMany) later ≡ Passed)
     unfolding checkInputs
-    after-torn = or-of (unless (whole I) TornInput) (orElse (unless (leb (I .n) 32) TooMany) later) e
+    after-torn = or-of (unless (untorn I) TornInput) (orElse (unless (leb (I .n) 32) TooMany) later) e
 
     after-many : (unless (leb (I .n) 32) TooMany ≡ Passed) × (later ≡ Passed)
     after-many = or-of (unless (leb (I .n) 32) TooMany) later (after-torn .1)
@@ -114,7 +114,7 @@ module _ (I : Inputs) where
     is-covered = or-of (checkAltitude (I .altitude)) (checkCovered (I .clock)) (after-clock .1) .1
 
     parts : (I .whole ≡ true) × (sized 16 (I .altitude) && sized 8 (I .reference) ≡ true)
-    unfolding whole
+    unfolding untorn
     parts = both-of (I .whole) (sized 16 (I .altitude) && sized 8 (I .reference)) (good-of _ TornInput (after-torn .0))
 
     pub is-whole : I .whole ≡ true
@@ -128,8 +128,8 @@ module _ (I : Inputs) where
 
 -- a clock that is there has its size, and its rows pass
 pub clock-of
-    : (there : Bool) (b : List ℕ) (n : ℕ) → checkClock (given there b) n ≡ Passed → checkCovered (given there b) ≡ Passed
-    → (Option·getD (given there b) [] ≡ b) × (length b ≡ 8 * (n * n)) × (firstTo (checkRow b n) n ≡ Passed)
+    : (there : Bool) (b : List ℕ) (n : ℕ) → checkClock (ifThere there b) n ≡ Passed → checkCovered (ifThere there b) ≡ Passed
+    → (Option·getD (ifThere there b) [] ≡ b) × (length b ≡ 8 * (n * n)) × (firstTo (checkRow b n) n ≡ Passed)
 clock-of true b n e f =
     let p = or-of (unless (eqb (length b) (8 * (n * n))) ClockSize) (firstTo (checkRow b n) n) e in
     (refl, eqb-true (length b) (8 * (n * n)) (good-of _ ClockSize (p .0)), p .1)

@@ -17,7 +17,7 @@ use Rattle.inputs.specs.declared.Check.the-variants.{Passed, Refused}
 use Rattle.inputs.specs.Domain.{goodReception, goodAltitude}
 use Rattle.inputs.specs.Faults.{orElse, unless, firstTo}
 use Rattle.receptions.specs.Identities.{ascends}
-use Rattle.inputs.specs.Inputs.{Inputs, whole, checkReception, goodRowTo, checkRow, checkClock, checkAltitude}
+use Rattle.inputs.specs.Inputs.{Inputs, untorn, checkReception, goodRowTo, checkRow, checkClock, checkAltitude}
 use Rattle.inputs.specs.Inputs.{kindAt, correctionAt, metresAt, checkCovered, checkInputs}
 
 -- of a disorder "index", which is that of the later one; of a bad field "index; 100 + row for clock; 200 for altitude"
@@ -94,7 +94,7 @@ module _ (I : Inputs) where
 
   inputs-locate : Locates (checkInputs I)
   unfolding checkInputs
-  inputs-locate = or-locates (unless (whole I) TornInput) _ (unless-locates (whole I) TornInput tt) (few-locate (leb (I .n) 32) refl)
+  inputs-locate = or-locates (unless (untorn I) TornInput) _ (unless-locates (untorn I) TornInput tt) (few-locate (leb (I .n) 32) refl)
 
 pub located : (I : Inputs) (fault : Fault) → checkInputs I ≡ Refused fault → Located fault
 located I fault e = subst Locates e (inputs-locate I)

@@ -13,12 +13,13 @@ use Rattle.dense.specs.Entries.{nth}
 use Rattle.geo.specs.Geo.{fromMm}
 use Rattle.sets.specs.Mask.{has}
 use Rattle.receptions.specs.declared.Fields.{Fields}
-use Rattle.receptions.specs.Receptions.{floats, siteIn}
+use Rattle.receptions.specs.Receptions.{floats}
+use Rattle.receptions.specs.Held.{siteIn}
 use Rattle.inputs.specs.declared.Fault.the-variants.{Disorder, BadField}
 use Rattle.inputs.specs.declared.Check.{Check}
 use Rattle.inputs.specs.Faults.{orElse, unless, firstTo}
 use Rattle.inputs.specs.Domain.{goodEntry}
-use Rattle.inputs.specs.Inputs.{entryAt, goodRowTo, given, sized}
+use Rattle.inputs.specs.Inputs.{entryAt, goodRowTo, ifThere, sized}
 use Rattle.receptions.proofs.Filling.{fill-three}
 use Rattle.inputs.proofs.Held.{goodIn, checkIn, metresIn}
 
@@ -57,7 +58,7 @@ row-next clock n i j h =
     let d : i + (j - i) ≡ j = omega arith in
     rw (e, d)
 
-pub sized-there : (size : ℕ) (there : Bool) (b : List ℕ) → there ≡ true → sized size (given there b) ≡ true → length b ≡ size
+pub sized-there : (size : ℕ) (there : Bool) (b : List ℕ) → there ≡ true → sized size (ifThere there b) ≡ true → length b ≡ size
 sized-there size there b t e = eqb-true (length b) size (rw t at e)
 
 -- an n × n matrix that has an entry has a row

@@ -20,7 +20,7 @@ use Rattle.inputs.specs.declared.Check.{Check}
 use Rattle.inputs.specs.declared.Check.the-variants.{Passed}
 use Rattle.inputs.specs.Faults.{orElse, unless, firstTo}
 use Rattle.inputs.specs.Domain.{goodMetres, goodAltitude}
-use Rattle.inputs.specs.Inputs.{Inputs, whole, checkReception, checkClock, checkAltitude, checkCovered, checkInputs, kindAt, correctionAt}
+use Rattle.inputs.specs.Inputs.{Inputs, untorn, checkReception, checkClock, checkAltitude, checkCovered, checkInputs, kindAt, correctionAt}
 use Rattle.inputs.specs.Inputs.{metresAt, corrected, altitudeOf, shownOf, problemOf}
 use Rattle.inputs.specs.Uncorrected.{oldGood, oldCheck, oldAltitude, oldCheckInputs, oldProblem, Uncorrected, OldFormStays}
 use Rattle.inputs.proofs.Order.{both-of, good-of}
@@ -83,7 +83,7 @@ module _ (I : Inputs) (u : Uncorrected (I .altitude)) where
   check-stays : checkInputs I ≡ oldCheckInputs I
   unfolding checkInputs
   check-stays =
-      ap (λ (c : Check). orElse (unless (whole I) TornInput) (orElse (unless (leb (I .n) 32) TooMany)
+      ap (λ (c : Check). orElse (unless (untorn I) TornInput) (orElse (unless (leb (I .n) 32) TooMany)
       (orElse (firstTo (checkReception (I .at)) (I .n)) (orElse (checkClock (I .clock) (I .n)) (orElse c (checkCovered (I .clock)))))))
       (same-check (I .altitude) u)
 

@@ -3,22 +3,18 @@
 use mathlib.Core.Path.{_≡_}
 use mathlib.Core.Logic.{_↔_}
 use mathlib.Core.Bool.{Bool, true}
-use mathlib.Core.List.{List}
 use Prim.Native.Nat.{ℕ, _*_, _<_, _≤_}
 use lib.IntN.{pos}
 use lib.ListN.{getD}
 use Rattle.dense.specs.Entries.{nth, at}
+use Rattle.sets.specs.Sets.{mostReceptions}
 use Rattle.problem.specs.declared.Altitude.{Altitude}
 use Rattle.problem.specs.declared.Altitude.the-variants.{None, Barometric, Gnss}
 use Rattle.problem.specs.declared.Problem.{Problem}
 use Rattle.receptions.specs.declared.Reception.{Reception}
-use Rattle.receptions.specs.declared.Fields.{Fields}
 use Rattle.receptions.specs.Identities.{before}
-use Rattle.receptions.specs.Receptions.{fieldsOf}
-use Rattle.inputs.specs.declared.Given.{Given}
-use Rattle.inputs.specs.Faults.{passed}
 use Rattle.inputs.specs.Domain.{goodTime, goodCoordinate, goodZ, goodNoise, goodEntry, goodMetres}
-use Rattle.inputs.specs.Inputs.{Inputs, inputsOf, checkInputs, problemOf}
+use Rattle.inputs.specs.Inputs.{Inputs, problemOf}
 
 abbrev pub altitudeGood : Altitude → Bool
 altitudeGood None = true
@@ -26,7 +22,7 @@ altitudeGood (Barometric metres) = goodMetres metres
 altitudeGood (Gnss metres) = goodMetres metres
 
 pub record InDomain (p : Problem) : Type 0 where
-  pub few : p .n ≤ 32
+  pub few : p .n ≤ mostReceptions
   pub times : (i : ℕ) → i < p .n → goodTime (getD (p .time) i (pos 0)) ≡ true
   pub sites : (k : ℕ) → k < 3 * p .n → goodCoordinate (getD (p .«site_mm») k (pos 0)) ≡ true
   pub zs : (i : ℕ) → i < p .n → goodZ (nth (p .z) i) ≡ true
@@ -38,12 +34,6 @@ pub record InDomain (p : Problem) : Type 0 where
 -- "identities strictly ascending": of any two of the first n receptions the earlier comes before the later
 abbrev pub Ascending : (ℕ → Reception) → ℕ → Type 0
 Ascending at n = (i j : ℕ) → i < j → j < n → before (at i .id) (at j .id) ≡ true
-
--- the arrays f hold n receptions that, with the other inputs, nothing turns away
-abbrev pub Passing : Fields → ℕ → Given → List ℕ → List ℕ → List ℕ → Type 0
-Passing f n g clock altitude reference =
-    (at : ℕ → Reception)
-    × ((f ≡ fieldsOf at n) × (checkInputs (inputsOf true n at g clock altitude reference) ≡ passed))
 
 -- P is what was read of the inputs I
 pub record Read (I : Inputs) (P : Problem) : Type 0 where

@@ -11,6 +11,7 @@ use lib.Ieee.{Float, binary64, ofInt}
 use Rattle.binary64.specs.Steps.{_⊕_, _⊘_, decimal, nought}
 use Rattle.dense.specs.Entries.{nth}
 use Rattle.geo.specs.Geo.{fromMm}
+use Rattle.sets.specs.Sets.{mostReceptions}
 use Rattle.words.specs.Words.{u32At, i32At, i64At, f64At}
 use Rattle.problem.specs.declared.Altitude.{Altitude}
 use Rattle.problem.specs.declared.Altitude.the-variants.{None, Barometric, Gnss}
@@ -36,8 +37,8 @@ pub record Inputs : Type 0 where
   pub reference : Option (List ℕ)
 
 -- an input that may be absent
-abbrev pub given : Bool → List ℕ → Option (List ℕ)
-given there bytes = cond there (some bytes) none
+abbrev pub ifThere : Bool → List ℕ → Option (List ℕ)
+ifThere there bytes = cond there (some bytes) none
 
 abbrev pub inputsOf : Bool → ℕ → (ℕ → Reception) → Given → List ℕ → List ℕ → List ℕ → Inputs
 inputsOf whole n at g clock altitude reference =
@@ -45,9 +46,9 @@ inputsOf whole n at g clock altitude reference =
       whole = whole;
       n = n;
       at = at;
-      clock = given (g .clock) clock;
-      altitude = given (g .altitude) altitude;
-      reference = given (g .reference) reference;
+      clock = ifThere (g .clock) clock;
+      altitude = ifThere (g .altitude) altitude;
+      reference = ifThere (g .reference) reference;
     }
 
 -- ---- what they are turned away for
@@ -57,8 +58,8 @@ sized size none = true
 sized size (some bytes) = eqb (length bytes) size
 
 -- 15: receptions not a multiple of 132 ("the torn-input test uses 132"), "altitude not 16, reference not 8 bytes"
-unfoldable pub whole : Inputs → Bool
-whole I = I .whole && (sized 16 (I .altitude) && sized 8 (I .reference))
+unfoldable pub untorn : Inputs → Bool
+untorn I = I .whole && (sized 16 (I .altitude) && sized 8 (I .reference))
 
 -- "receptions one by one, 12 before 11": reception i. 11 is "identity not above the one before", `ascends` that is
 -- false
@@ -110,8 +111,8 @@ checkCovered (some clock) = Passed
 -- where 7 comes first." The output's 14 is the caller's.
 unfoldable pub checkInputs : Inputs → Check
 checkInputs I =
-    orElse (unless (whole I) TornInput)
-    (orElse (unless (leb (I .n) 32) TooMany)
+    orElse (unless (untorn I) TornInput)
+    (orElse (unless (leb (I .n) mostReceptions) TooMany)
     (orElse (firstTo (checkReception (I .at)) (I .n))
     (orElse (checkClock (I .clock) (I .n)) (orElse (checkAltitude (I .altitude)) (checkCovered (I .clock))))))
 

@@ -3,3 +3,4 @@ pub mod Domain
 pub mod Inputs
 pub mod InDomain
 pub mod Uncorrected
+pub mod Held

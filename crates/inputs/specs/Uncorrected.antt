@@ -9,6 +9,7 @@ use Prim.Native.Nat.{ℕ}
 use lib.Dec.{eqb, leb}
 use lib.IntN.{pos}
 use lib.Ieee.{Float}
+use Rattle.sets.specs.Sets.{mostReceptions}
 use Rattle.words.specs.Words.{u64At, f64At}
 use Rattle.problem.specs.declared.Altitude.{Altitude}
 use Rattle.problem.specs.declared.Altitude.the-variants.{None, Barometric, Gnss}
@@ -18,7 +19,7 @@ use Rattle.inputs.specs.declared.Check.{Check}
 use Rattle.inputs.specs.declared.Check.the-variants.{Passed}
 use Rattle.inputs.specs.Faults.{orElse, unless, firstTo}
 use Rattle.inputs.specs.Domain.{goodMetres}
-use Rattle.inputs.specs.Inputs.{Inputs, whole, checkReception, checkClock, checkCovered, checkInputs}
+use Rattle.inputs.specs.Inputs.{Inputs, untorn, checkReception, checkClock, checkCovered, checkInputs}
 use Rattle.inputs.specs.Inputs.{correctionAt, problemOf}
 
 -- ---- document 01's form
@@ -41,8 +42,8 @@ oldAltitude (some altitude) =
 -- the refusal of the four inputs, and their problem: its one altitude is solved with and shown
 abbrev pub oldCheckInputs : Inputs → Check
 oldCheckInputs I =
-    orElse (unless (whole I) TornInput)
-    (orElse (unless (leb (I .n) 32) TooMany)
+    orElse (unless (untorn I) TornInput)
+    (orElse (unless (leb (I .n) mostReceptions) TooMany)
     (orElse (firstTo (checkReception (I .at)) (I .n))
     (orElse (checkClock (I .clock) (I .n)) (orElse (oldCheck (I .altitude)) (checkCovered (I .clock))))))
 

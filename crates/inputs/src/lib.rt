@@ -9,11 +9,13 @@ ghost use lib.ListN.{length, set};
 ghost use Rattle.dense.specs.Entries.{nth};
 ghost use Rattle.geo.specs.Geo.{fromMm};
 ghost use Rattle.receptions.specs.declared.Reception as reception;
-ghost use Rattle.receptions.specs.Receptions.{fillTo, floats, fieldsOf, Holds, siteIn};
+ghost use Rattle.receptions.specs.Receptions.{fillTo, floats, fieldsOf};
+ghost use Rattle.receptions.specs.Held.{Holds, siteIn};
 ghost use Rattle.inputs.specs.declared.Fault.the-variants.{Disorder, BadField};
 ghost use Rattle.inputs.specs.Faults as faults;
 ghost use Rattle.inputs.specs.Inputs as inputs;
-ghost use Rattle.inputs.specs.InDomain.{Passing, Read};
+ghost use Rattle.inputs.specs.InDomain.{Read};
+ghost use Rattle.inputs.specs.Held.{Passing};
 use problem::Altitude;
 use problem::Problem;
 use receptions::Fields;
@@ -157,7 +159,7 @@ fn check_rows(clock: &[u8], n: usize) -> Check
 
 fn check_clock(there: bool, clock: &[u8], n: usize) -> Check
     requires { ⌜ n ≤ 32 ⌝ }
-    ensures { λ r. ⌜ r ≡ inputs.checkClock (inputs.given there (now (clock .entry))) n ⌝ }
+    ensures { λ r. ⌜ r ≡ inputs.checkClock (inputs.ifThere there (now (clock .entry))) n ⌝ }
 {
     if !there {
         return Check::Passed;
@@ -169,8 +171,8 @@ fn check_clock(there: bool, clock: &[u8], n: usize) -> Check
 }
 
 fn check_altitude(there: bool, altitude: &[u8]) -> Check
-    requires { ⌜ inputs.sized 16 (inputs.given there (now altitude)) ≡ true ⌝ }
-    ensures { λ r. ⌜ r ≡ inputs.checkAltitude (inputs.given there (now (altitude .entry))) ⌝ }
+    requires { ⌜ inputs.sized 16 (inputs.ifThere there (now altitude)) ≡ true ⌝ }
+    ensures { λ r. ⌜ r ≡ inputs.checkAltitude (inputs.ifThere there (now (altitude .entry))) ⌝ }
 {
     if !there {
         return Check::Passed;
@@ -183,7 +185,7 @@ fn check_altitude(there: bool, altitude: &[u8]) -> Check
 
 // Absent, or of so many bytes.
 fn sized(there: bool, bytes: &[u8], size: usize) -> bool
-    ensures { λ r. ⌜ r ≡ inputs.sized size (inputs.given there (now (bytes .entry))) ⌝ }
+    ensures { λ r. ⌜ r ≡ inputs.sized size (inputs.ifThere there (now (bytes .entry))) ⌝ }
 {
     if there {
         return bytes.len() == size;
@@ -285,8 +287,8 @@ fn corrected(metres: f64, correction: i32) -> f64
 
 // The altitude that is solved with.
 fn altitude_of(there: bool, altitude: &[u8]) -> Altitude
-    requires { ⌜ inputs.sized 16 (inputs.given there (now altitude)) ≡ true ⌝ }
-    ensures { λ r. ⌜ r ≡ inputs.altitudeOf (inputs.given there (now (altitude .entry))) ⌝ }
+    requires { ⌜ inputs.sized 16 (inputs.ifThere there (now altitude)) ≡ true ⌝ }
+    ensures { λ r. ⌜ r ≡ inputs.altitudeOf (inputs.ifThere there (now (altitude .entry))) ⌝ }
 {
     if there {
         let metres = files::metres_at(altitude);
@@ -301,8 +303,8 @@ fn altitude_of(there: bool, altitude: &[u8]) -> Altitude
 
 // The altitude that is shown: as given.
 fn shown_of(there: bool, altitude: &[u8]) -> Altitude
-    requires { ⌜ inputs.sized 16 (inputs.given there (now altitude)) ≡ true ⌝ }
-    ensures { λ r. ⌜ r ≡ inputs.shownOf (inputs.given there (now (altitude .entry))) ⌝ }
+    requires { ⌜ inputs.sized 16 (inputs.ifThere there (now altitude)) ≡ true ⌝ }
+    ensures { λ r. ⌜ r ≡ inputs.shownOf (inputs.ifThere there (now (altitude .entry))) ⌝ }
 {
     if there {
         let metres = files::metres_at(altitude);
@@ -315,8 +317,8 @@ fn shown_of(there: bool, altitude: &[u8]) -> Altitude
 }
 
 fn reference_of(there: bool, reference: &[u8]) -> i64
-    requires { ⌜ inputs.sized 8 (inputs.given there (now reference)) ≡ true ⌝ }
-    ensures { λ r. ⌜ r ≡ inputs.referenceOf (inputs.given there (now (reference .entry))) ⌝ }
+    requires { ⌜ inputs.sized 8 (inputs.ifThere there (now reference)) ≡ true ⌝ }
+    ensures { λ r. ⌜ r ≡ inputs.referenceOf (inputs.ifThere there (now (reference .entry))) ⌝ }
 {
     if there {
         return words::i64_at(reference, 0);

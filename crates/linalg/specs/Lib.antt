@@ -1,2 +1,3 @@
 pub mod Methods
 pub mod Vec3
+pub mod Held

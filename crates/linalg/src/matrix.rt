@@ -4,9 +4,11 @@ ghost use mathlib.Core.Path.{_≡_};
 ghost use Prim.Native.Nat.{_<_, _≤_};
 ghost use Rattle.binary64.specs.Steps.{_⊕_};
 ghost use Rattle.dense.specs.Entries.{at, put, mulVec};
-ghost use Rattle.dense.specs.Factor.{verdict, cholesky};
+ghost use Rattle.dense.specs.Factor.{cholesky};
+ghost use Rattle.dense.specs.Held.{verdict};
 ghost use Rattle.dense.specs.Sandwich.{sandwich};
-ghost use Rattle.linalg.specs.Methods.{zeros, matrix};
+ghost use Rattle.linalg.specs.Methods.{zeros};
+ghost use Rattle.linalg.specs.Held.{matrix};
 
 pub struct Matrix {
     pub n: usize,

@@ -20,7 +20,7 @@ use Rattle.reader.specs.declared.content.Content.{Content}
 use Rattle.reader.specs.declared.content.Reading.{Reading}
 use Rattle.reader.specs.Rules.{answerAt, detailAt, nAt}
 use Rattle.reader.specs.Read.{fixAt, fixed, refused, readOf, contentAt, bytesOf, readable, writeAnswer, writeOutput}
-use Rattle.reader.specs.Meaning.{Bytes, given, Held, HeldThree}
+use Rattle.reader.specs.Meaning.{Bytes, takenApart, Held, HeldThree}
 use Rattle.reader.proofs.Tests.{all-3}
 use Rattle.reader.proofs.Round.{kind-back, metres-back}
 use Rattle.reader.proofs.Fixed.{altitude-back}
@@ -184,7 +184,7 @@ unfolding recordAnswer recordOutput contentOf fixOf
 records-read-again words numbers time out l e =
     let v = contentOf words numbers time in
     let t = allowed (ltb (length out) 176) (whole words numbers) (writeAnswer v out) e in
-    let q : readOf (take 176 (writeOutput v out)) ≡ given v = reads-what-was-written v out (held words numbers time l) (t .1) in
+    let q : readOf (take 176 (writeOutput v out)) ≡ takenApart v = reads-what-was-written v out (held words numbers time l) (t .1) in
     rw (t .0) (record {
       answered = ap (λ (r : Reading). r .refusal) q;
       inWords = ap (λ (r : Reading). wordsOf (r .content)) q ∙ words-back words numbers time l (t .0);

@@ -13,7 +13,7 @@ use mir.Val.{SFits}
 use Rattle.refusals.specs.Refusals.{shortOutput, malformedRecord}
 use Rattle.dense.specs.Entries.{nth}
 use Rattle.record.specs.declared.content.Fix.{Fix}
-use Rattle.record.specs.Record.{kind, metres, stored}
+use Rattle.record.specs.Record.{kind, metres, stored, recordBytes}
 use Rattle.reader.specs.declared.content.Content.{Content}
 use Rattle.reader.specs.declared.content.Reading.{Reading}
 use Rattle.reader.specs.Read.{placeRefusal, altitudeOf, readOf, writeAnswer, writeOutput}
@@ -21,7 +21,7 @@ use Rattle.reader.specs.Meaning.{Bytes}
 
 -- where a record begins in the caller's file; as found where it is refused
 abbrev pub placedAt : ℕ → ℕ → ℕ → ℕ
-placedAt size place found = cond (eqb (placeRefusal size place) 0) (176 * place) found
+placedAt size place found = cond (eqb (placeRefusal size place) 0) (recordBytes * place) found
 
 -- ---- what was read
 
@@ -100,7 +100,7 @@ whole words numbers =
 -- 14 first; then 18 for what `mlat_read_record` could not have given
 unfoldable pub recordAnswer : List ℕ → List Float → ℤ → List ℕ → ℕ
 recordAnswer words numbers time out =
-    cond (ltb (length out) 176) shortOutput
+    cond (ltb (length out) recordBytes) shortOutput
     (cond (whole words numbers) (writeAnswer (contentOf words numbers time) out) malformedRecord)
 
 unfoldable pub recordOutput : List ℕ → List Float → ℤ → List ℕ → List ℕ
@@ -127,7 +127,7 @@ pub record ReadFrom (s words : List ℕ) (numbers : List Float) (time : ℤ) : T
 abbrev pub RecordsWrittenAgain : Type 0
 RecordsWrittenAgain =
     (s out words : List ℕ) (numbers : List Float) (time : ℤ) → Bytes s → ReadFrom s words numbers time
-    → 176 ≤ length out
+    → recordBytes ≤ length out
     → (recordAnswer words numbers time out ≡ 0) × (recordOutput words numbers time out ≡ stored out s)
 
 -- and what was written is read again
@@ -135,12 +135,13 @@ abbrev pub RecordsReadAgain : Type 0
 RecordsReadAgain =
     (words : List ℕ) (numbers : List Float) (time : ℤ) (out : List ℕ) → Lends words numbers time
     → recordAnswer words numbers time out ≡ 0
-    → ReadFrom (take 176 (recordOutput words numbers time out)) words numbers time
+    → ReadFrom (take recordBytes (recordOutput words numbers time out)) words numbers time
 
 -- "any other value gets 18"
 abbrev pub RecordsRefused : Type 0
 RecordsRefused =
-    (words : List ℕ) (numbers : List Float) (time : ℤ) (out : List ℕ) → Lends words numbers time → 176 ≤ length out
+    (words : List ℕ) (numbers : List Float) (time : ℤ) (out : List ℕ) → Lends words numbers time
+    → recordBytes ≤ length out
     → (recordAnswer words numbers time out ≡ malformedRecord
     → (s : List ℕ) → Bytes s → ReadFrom s words numbers time → ⊥)
     × (((s : List ℕ) → Bytes s → ReadFrom s words numbers time → ⊥)

@@ -15,7 +15,7 @@ use Rattle.sets.specs.Mask.{has, maskOf}
 use Rattle.sets.proofs.Tests.{either, F→eq, lt-suc-cases}
 use Rattle.sets.proofs.Digits.{has-zero}
 use Rattle.sets.proofs.Masks.{one-bit, mask-same, mask-lt, set-of-mask}
-use Rattle.screen.specs.Screen.{pairsOf}
+use Rattle.screen.specs.Held.{pairsOf}
 use Rattle.screen.proofs.Rows.{zeros}
 use Rattle.patterns.specs.Patterns.{clash, failing}
 use Rattle.patterns.proofs.Once.{failing-in, failing-within}

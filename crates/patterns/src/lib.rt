@@ -3,7 +3,7 @@
 ghost use mathlib.Core.Path.{_≡_};
 ghost use Prim.Native.Nat.{_^_, _≤_, _<_};
 ghost use Rattle.sets.specs.Mask.{has};
-ghost use Rattle.screen.specs.Screen.{pairsOf};
+ghost use Rattle.screen.specs.Held.{pairsOf};
 ghost use Rattle.patterns.specs.Patterns.{pairs, clash, failing, survivors, table, answer, countsAfter};
 
 // "a set of 0 to 6 receptions".

@@ -19,7 +19,7 @@ use Rattle.words.proofs.Back.{lowest, lowest-whole}
 use Rattle.problem.specs.declared.Altitude.{Altitude}
 use Rattle.problem.specs.declared.Altitude.the-variants.{None, Barometric, Gnss}
 use Rattle.record.specs.declared.content.Fix.{Fix}
-use Rattle.record.specs.Record.{written, foot, blank, kind, metres, fix}
+use Rattle.record.specs.Record.{written, foot, blankRecord, kind, metres, fix}
 use Rattle.reader.specs.declared.content.Content.{Content}
 use Rattle.reader.specs.Read.{threeAt, altitudeOf, fixed}
 use Rattle.reader.specs.Meaning.{HeldThree, HeldFix}
@@ -67,9 +67,9 @@ foot-table : (r : List ℕ) (alt : Altitude) → written r (foot alt) ≡ putAll
 unfolding putAll putU16 putU64 putF64
 foot-table r alt = ap (λ (l : List ℕ). putWord 8 l 168 (bits (metres alt))) (byte-put (putWord 2 r 160 8) 162 (kind alt) (kind-lt alt))
 
-pub fix-table : (n : ℕ) (alt : Altitude) (f : Fix) → fix n alt f ≡ putAll blank (table n alt f)
+pub fix-table : (n : ℕ) (alt : Altitude) (f : Fix) → fix n alt f ≡ putAll blankRecord (table n alt f)
 unfolding fix table putAll putU16 putU32 putU64 putI64 putF64
-fix-table n alt f = foot-table (putAll blank (front n f)) alt
+fix-table n alt f = foot-table (putAll blankRecord (front n f)) alt
 
 bits-lt : (x : Float) → T (fits binary64 x) → bits x < 256 ^ 8
 bits-lt x h = toBits-lt binary64 x h
@@ -112,7 +112,7 @@ module _ (n : ℕ) (alt : Altitude) (f : Fix) where
   table-apart = refl
 
   pub table-read : Reads (fix n alt f) (table n alt f)
-  table-read = rw (fix-table n alt f) (reads 176 (table n alt f) blank 0 (length-replicate {A = ℕ} 176 0) table-apart)
+  table-read = rw (fix-table n alt f) (reads 176 (table n alt f) blankRecord 0 (length-replicate {A = ℕ} 176 0) table-apart)
 
   pub answer-read : u32At (fix n alt f) 0 ≡ 0
   unfolding table front

@@ -13,7 +13,7 @@ use Rattle.reader.specs.declared.content.Content.{Content}
 use Rattle.reader.specs.declared.content.Reading.{Reading}
 use Rattle.reader.specs.Tests.{meetsRules}
 use Rattle.reader.specs.Read.{placeRefusal, readOf, contentAt, bytesOf, readable, turnedAway, writeAnswer, writeOutput}
-use Rattle.reader.specs.Meaning.{given, Held, PlacesOfRecords, OwnBytes, TakesApartExactly, TurnsAwayOthers}
+use Rattle.reader.specs.Meaning.{takenApart, Held, PlacesOfRecords, OwnBytes, TakesApartExactly, TurnsAwayOthers}
 use Rattle.reader.specs.Meaning.{WritesWhatWasRead, ReadsWhatWasWritten, RefusesWhatNoReadGives}
 use Rattle.reader.proofs.Paragraph.{tests-are-rules}
 use Rattle.reader.proofs.Places.{torn-file, no-such-place, placed, within-file, there}
@@ -57,10 +57,10 @@ first false b x y z p q e = let n : _≡_ {A = ℕ} 0 16 = sym e ∙ q in absurd
 pub accepted : (s : List ℕ) → (readOf s .refusal ≡ 0) → (length s ≡ 176) × (meetsRules s ≡ true)
 unfolding readOf
 accepted s e =
-    let t = first (eqb (length s) 176) (meetsRules s) (given (contentAt s)) (turnedAway 18) (turnedAway 16) refl refl e in
+    let t = first (eqb (length s) 176) (meetsRules s) (takenApart (contentAt s)) (turnedAway 18) (turnedAway 16) refl refl e in
     (eqb-true _ _ (t .0), t .1)
 
-pub taken-apart : (s : List ℕ) → length s ≡ 176 → meetsRules s ≡ true → readOf s ≡ given (contentAt s)
+pub taken-apart : (s : List ℕ) → length s ≡ 176 → meetsRules s ≡ true → readOf s ≡ takenApart (contentAt s)
 unfolding readOf
 taken-apart s l m = rw (eq-eqb (length s) 176 l, m)
 
@@ -95,8 +95,8 @@ allowed true b e = absurd (omega arith)
 allowed false true e = (refl, refl)
 allowed false false e = absurd (omega arith)
 
-back : (v : Content) → Held v → readable v ≡ true → readOf (bytesOf v) ≡ given v
-back v h r = let t = value-back v h r in taken-apart (bytesOf v) (bytes-sized v) (t .0) ∙ ap given (sym (t .1))
+back : (v : Content) → Held v → readable v ≡ true → readOf (bytesOf v) ≡ takenApart v
+back v h r = let t = value-back v h r in taken-apart (bytesOf v) (bytes-sized v) (t .0) ∙ ap takenApart (sym (t .1))
 
 pub reads-what-was-written : ReadsWhatWasWritten
 unfolding writeAnswer writeOutput

@@ -11,7 +11,7 @@ use lib.Ieee.{Float}
 use borrow.Author.Tests.{eqb-true, leb-true}
 use Rattle.binary64.specs.Steps.{nought, isFinite}
 use Rattle.words.specs.Words.{wordAt, u16At, u32At, u64At, f64At, putU32, putF64}
-use Rattle.record.specs.Record.{putThree, written, head, foot, kind, metres, blank, fix, refusal}
+use Rattle.record.specs.Record.{putThree, written, head, foot, kind, metres, blankRecord, fix, refusal}
 use Rattle.record.proofs.Parts.{parts}
 use Rattle.reader.specs.Rules.{answerAt, detailAt, nAt, maskAt, versionAt, kindAt}
 use Rattle.reader.specs.Tests.{goodAnswer, goodDetail, goodMask, goodDof, zeros, goodN, goodFloats, goodMetres}
@@ -57,39 +57,39 @@ n-shown false n e = let h : n ≤ 0 = leb-true n 0 e in omega arith
 -- ---- the copy
 
 module _ (s : List ℕ) (sized : length s ≡ 176) (bytes : Bytes s) where
-  same : length s ≡ length blank
+  same : length s ≡ length blankRecord
   same = sized ∙ sym (length-replicate {A = ℕ} 176 0)
 
-  room : (k : ℕ) → k ≤ 176 → k ≤ length blank
+  room : (k : ℕ) → k ≤ 176 → k ≤ length blankRecord
   room k h = rw (length-replicate {A = ℕ} 176 0) h
 
-  skip-zeros : (k count : ℕ) → k + count ≤ 176 → zeros s k count ≡ true → upTo s blank k ≡ upTo s blank (k + count)
+  skip-zeros : (k count : ℕ) → k + count ≤ 176 → zeros s k count ≡ true → upTo s blankRecord k ≡ upTo s blankRecord (k + count)
   unfolding zeros
   skip-zeros k zero h e = let q : k + 0 ≡ k = omega arith in rw q
   skip-zeros k (suc c) h e =
       let t = both-true (zeros s k c) (eqb (getD s (k + c) 0) 0) e in
       let q : k + c + 1 ≡ k + suc c = omega arith in
       skip-zeros k c (omega arith) (t .0)
-      ∙ skip-byte s blank same (k + c) (room _ (omega arith)) (eqb-true _ _ (t .1) ∙ sym (getD-replicate {A = ℕ} 176 (k + c) 0 0 (omega arith)))
+      ∙ skip-byte s blankRecord same (k + c) (room _ (omega arith)) (eqb-true _ _ (t .1) ∙ sym (getD-replicate {A = ℕ} 176 (k + c) 0 0 (omega arith)))
       ∙ rw q
 
-  begin : blank ≡ upTo s blank 0
+  begin : blankRecord ≡ upTo s blankRecord 0
   unfolding upTo
   begin = refl
 
-  end : upTo s blank 176 ≡ s
+  end : upTo s blankRecord 176 ≡ s
   unfolding upTo
   end = rw (take-all 176 s (omega arith), append-nil)
 
-  u32 : (k : ℕ) → k + 4 ≤ 176 → putU32 (upTo s blank k) k (u32At s k) ≡ upTo s blank (k + 4)
-  u32 k h = copy-u32 s blank same bytes k (room _ h)
+  u32 : (k : ℕ) → k + 4 ≤ 176 → putU32 (upTo s blankRecord k) k (u32At s k) ≡ upTo s blankRecord (k + 4)
+  u32 k h = copy-u32 s blankRecord same bytes k (room _ h)
 
-  f64 : (k : ℕ) → k + 8 ≤ 176 → isFinite (f64At s k) ≡ true → putF64 (upTo s blank k) k (f64At s k) ≡ upTo s blank (k + 8)
-  f64 k h f = copy-f64 s blank same bytes k (room _ h) f
+  f64 : (k : ℕ) → k + 8 ≤ 176 → isFinite (f64At s k) ≡ true → putF64 (upTo s blankRecord k) k (f64At s k) ≡ upTo s blankRecord (k + 8)
+  f64 k h f = copy-f64 s blankRecord same bytes k (room _ h) f
 
   head-copied
       : (answer detail n : ℕ) → answer ≡ u32At s 0 → detail ≡ u32At s 4 → n ≡ u32At s 8
-      → written blank (head answer detail n) ≡ upTo s blank 12
+      → written blankRecord (head answer detail n) ≡ upTo s blankRecord 12
   head-copied answer detail n ea ed en =
       rw (ea, ed, en)
       (ap (λ (l : List ℕ). putU32 (putU32 (putU32 l 0 (u32At s 0)) 4 (u32At s 4)) 8 (u32At s 8)) begin
@@ -98,7 +98,7 @@ module _ (s : List ℕ) (sized : length s ≡ 176) (bytes : Bytes s) where
       ∙ u32 8 (omega arith))
 
   three : (k : ℕ) → k + 24 ≤ 176 → isFinite (f64At s k) ≡ true → isFinite (f64At s (k + 8)) ≡ true → isFinite (f64At s (k + 16)) ≡ true
-      → putThree (upTo s blank k) k (threeAt s k) ≡ upTo s blank (k + 24)
+      → putThree (upTo s blankRecord k) k (threeAt s k) ≡ upTo s blankRecord (k + 24)
   three k h f g i =
       let p : k + 8 + 8 ≡ k + 16 = omega arith in
       let q : k + 16 + 8 ≡ k + 24 = omega arith in
@@ -109,11 +109,11 @@ module _ (s : List ℕ) (sized : length s ≡ 176) (bytes : Bytes s) where
 
   foot-copied
       : u16At s 160 ≡ 8 → kindAt s ≤ 2 → zeros s 163 5 ≡ true → goodMetres (kindAt s) s ≡ true → isFinite (f64At s 168) ≡ true
-      → written (upTo s blank 160) (foot (altitudeOf (kindAt s) (f64At s 168))) ≡ s
+      → written (upTo s blankRecord 160) (foot (altitudeOf (kindAt s) (f64At s 168))) ≡ s
   foot-copied v k z m f =
       rw (sym v, kind-back (kindAt s) (f64At s 168) k, metres-back (kindAt s) (f64At s 168) k (zero-metres s (kindAt s) m))
-      (ap (λ (l : List ℕ). putF64 (set l 162 (getD s 162 0)) 168 (f64At s 168)) (copy-u16 s blank same bytes 160 (room _ (omega arith)))
-      ∙ ap (λ (l : List ℕ). putF64 l 168 (f64At s 168)) (copy-byte s blank same 162 (room _ (omega arith)) ∙ skip-zeros 163 5 (omega arith) z)
+      (ap (λ (l : List ℕ). putF64 (set l 162 (getD s 162 0)) 168 (f64At s 168)) (copy-u16 s blankRecord same bytes 160 (room _ (omega arith)))
+      ∙ ap (λ (l : List ℕ). putF64 l 168 (f64At s 168)) (copy-byte s blankRecord same 162 (room _ (omega arith)) ∙ skip-zeros 163 5 (omega arith) z)
       ∙ f64 168 (omega arith) f
       ∙ end)
 
@@ -136,8 +136,9 @@ module _ (s : List ℕ) (sized : length s ≡ 176) (bytes : Bytes s) where
       let mid = high-finite s g in
       sym
       (parts (nAt s) (altitudeOf (kindAt s) (f64At s 168)) (fixAt s)
-      (upTo s blank 12) (upTo s blank 16) (upTo s blank 40) (upTo s blank 48) (upTo s blank 56) (upTo s blank 64) (upTo s blank 72)
-      (upTo s blank 80) (upTo s blank 104) (upTo s blank 128) (upTo s blank 152) (upTo s blank 160) s
+      (upTo s blankRecord 12) (upTo s blankRecord 16) (upTo s blankRecord 40) (upTo s blankRecord 48) (upTo s blankRecord 56) (upTo s blankRecord 64)
+      (upTo s blankRecord 72)
+      (upTo s blankRecord 80) (upTo s blankRecord 104) (upTo s blankRecord 128) (upTo s blankRecord 152) (upTo s blankRecord 160) s
       (sym (head-copied 0 (detailAt s) (nAt s) (sym a) refl refl))
       (sym (u32 12 (omega arith)))
       (sym (three 16 (omega arith) (low 0 (lit< tt)) (low 1 (lit< tt)) (low 2 (lit< tt))))
@@ -145,7 +146,7 @@ module _ (s : List ℕ) (sized : length s ≡ 176) (bytes : Bytes s) where
       (sym (f64 48 (omega arith) (low 4 (lit< tt))))
       (sym (f64 56 (omega arith) (low 5 (lit< tt))))
       (sym (f64 64 (omega arith) (low 6 (lit< tt))))
-      (sym (copy-i64 s blank same bytes 72 (room _ (omega arith))))
+      (sym (copy-i64 s blankRecord same bytes 72 (room _ (omega arith))))
       (sym (three 80 (omega arith) (mid 0 (lit< tt)) (mid 1 (lit< tt)) (mid 2 (lit< tt))))
       (sym (three 104 (omega arith) (mid 3 (lit< tt)) (mid 4 (lit< tt)) (mid 5 (lit< tt))))
       (sym (three 128 (omega arith) (mid 6 (lit< tt)) (mid 7 (lit< tt)) (mid 8 (lit< tt))))

@@ -21,7 +21,7 @@ use Rattle.words.proofs.Back.{lowest, zero-bytes}
 use Rattle.problem.specs.declared.Altitude.{Altitude}
 use Rattle.problem.specs.declared.Altitude.the-variants.{None, Barometric, Gnss}
 use Rattle.record.specs.declared.content.Fix.{Fix}
-use Rattle.record.specs.Record.{blank, kind, metres, fix, refusal}
+use Rattle.record.specs.Record.{blankRecord, kind, metres, fix, refusal}
 use Rattle.reader.specs.Rules.{answerAt, detailAt, nAt, maskAt, versionAt, kindAt, Zero, Finite, IsDof, DetailRule, Rules}
 use Rattle.reader.proofs.Table.{Reads, first-read, whole-read, later-read, clear, stays}
 use Rattle.reader.proofs.Fixed.{bits, front, table, fix-table, table-read, answer-read, u32-back, byte-back, f64-back, kind-lt}
@@ -54,7 +54,7 @@ module _ (a d n : ℕ) where
 
   -- all bytes past n
   pub refusal-zero : Zero (refusal a d n) 12 176
-  refusal-zero j h g = rw (refusal-table a d n) (stays (heads a d m) blank 12 176 j clear-heads h g ∙ zero-at 176 j)
+  refusal-zero j h g = rw (refusal-table a d n) (stays (heads a d m) blankRecord 12 176 j clear-heads h g ∙ zero-at 176 j)
 
   -- so every entry of the covariance
   pub refusal-u64 : (k : ℕ) → 12 ≤ k → k + 8 ≤ 176 → u64At (refusal a d n) k ≡ 0
@@ -140,7 +140,7 @@ module _ (n : ℕ) (alt : Altitude) (f : Fix) where
   clear-filler = refl
 
   pub filler-shown : Zero s 163 168
-  filler-shown j h g = rw (fix-table n alt f) (stays (table n alt f) blank 163 168 j clear-filler h g ∙ zero-at 176 j)
+  filler-shown j h g = rw (fix-table n alt f) (stays (table n alt f) blankRecord 163 168 j clear-filler h g ∙ zero-at 176 j)
 
   pub fix-rules
       : n ≤ 32 → f .mask < 2 ^ n → IsDof (f .mask) (kind alt) (f .dof)

@@ -15,7 +15,7 @@ use Rattle.words.proofs.Back.{put-length}
 use Rattle.problem.specs.declared.Altitude.{Altitude}
 use Rattle.problem.specs.declared.Altitude.the-variants.{None}
 use Rattle.record.specs.declared.content.Fix.{Fix}
-use Rattle.record.specs.Record.{blank, fix, refusal}
+use Rattle.record.specs.Record.{blankRecord, fix, refusal}
 use Rattle.reader.specs.declared.content.Content.{Content}
 use Rattle.reader.specs.Rules.{kindAt}
 use Rattle.reader.specs.Tests.{zeros, goodN, meetsRules}
@@ -56,10 +56,10 @@ zero-at zero j = refl
 zero-at (suc n) zero = refl
 zero-at (suc n) (suc j) = zero-at n j
 
-blank-bytes : Bytes blank
-blank-bytes j = let e : getD blank j 0 ≡ 0 = zero-at 176 j in omega arith
+blank-bytes : Bytes blankRecord
+blank-bytes j = let e : getD blankRecord j 0 ≡ 0 = zero-at 176 j in omega arith
 
-blank-length : length blank ≡ 176
+blank-length : length blankRecord ≡ 176
 blank-length = length-replicate {A = ℕ} 176 0
 
 -- ---- a refusal
@@ -67,7 +67,7 @@ blank-length = length-replicate {A = ℕ} 176 0
 unfoldable pub heads : ℕ → ℕ → ℕ → List Word
 heads a d n = word 4 0 a ∷ word 4 4 d ∷ word 4 8 n ∷ []
 
-pub refusal-table : (a d n : ℕ) → refusal a d n ≡ putAll blank (heads a d (cond (leb a 9) n 0))
+pub refusal-table : (a d n : ℕ) → refusal a d n ≡ putAll blankRecord (heads a d (cond (leb a 9) n 0))
 unfolding refusal putU32 putAll heads
 refusal-table a d n = refl
 
@@ -81,7 +81,7 @@ heads-apart a d n = refl
 pub heads-read : (a d n : ℕ) → Reads (refusal a d n) (heads a d (cond (leb a 9) n 0))
 heads-read a d n =
     let m = cond (leb a 9) n 0 in
-    rw (refusal-table a d n) (reads 176 (heads a d m) blank 0 blank-length (heads-apart a d m))
+    rw (refusal-table a d n) (reads 176 (heads a d m) blankRecord 0 blank-length (heads-apart a d m))
 
 module _ (a d n : ℕ) (ha : a < 2 ^ 32) (hd : d < 2 ^ 32) (hn : n < 2 ^ 32) (good : goodN a n ≡ true) where
   refusal-words : Reads (refusal a d n) (heads a d n)
@@ -184,17 +184,17 @@ module _ (v : Content) (h : Held v) where
 
 module _ (n : ℕ) (alt : Altitude) (f : Fix) where
   pub fix-sized : length (fix n alt f) ≡ 176
-  fix-sized = rw (fix-table n alt f) (put-all-length (table n alt f) blank ∙ blank-length)
+  fix-sized = rw (fix-table n alt f) (put-all-length (table n alt f) blankRecord ∙ blank-length)
 
   pub fix-bytes : Bytes (fix n alt f)
-  fix-bytes = rw (fix-table n alt f) (put-all-bytes (table n alt f) blank blank-bytes)
+  fix-bytes = rw (fix-table n alt f) (put-all-bytes (table n alt f) blankRecord blank-bytes)
 
 module _ (a d n : ℕ) where
   pub refusal-sized : length (refusal a d n) ≡ 176
-  refusal-sized = rw (refusal-table a d n) (put-all-length (heads a d (cond (leb a 9) n 0)) blank ∙ blank-length)
+  refusal-sized = rw (refusal-table a d n) (put-all-length (heads a d (cond (leb a 9) n 0)) blankRecord ∙ blank-length)
 
   pub refusal-bytes : Bytes (refusal a d n)
-  refusal-bytes = rw (refusal-table a d n) (put-all-bytes (heads a d (cond (leb a 9) n 0)) blank blank-bytes)
+  refusal-bytes = rw (refusal-table a d n) (put-all-bytes (heads a d (cond (leb a 9) n 0)) blankRecord blank-bytes)
 
 module _ (v : Content) where
   sized : (b : Bool) → length (cond b (fix (v .n) (v .altitude) (v .fix)) (refusal (v .answer) (v .detail) (v .n))) ≡ 176

@@ -11,7 +11,7 @@ use mir.Val.{SFits}
 use Rattle.refusals.specs.Refusals.{tornFile, noSuchPlace, malformedRecord}
 use Rattle.dense.specs.Entries.{nth}
 use Rattle.record.specs.declared.content.Fix.{Fix}
-use Rattle.record.specs.Record.{metres, stored}
+use Rattle.record.specs.Record.{metres, stored, recordBytes}
 use Rattle.reader.specs.declared.content.Content.{Content}
 use Rattle.reader.specs.declared.content.Reading.{Reading}
 use Rattle.reader.specs.Rules.{Rules}
@@ -28,22 +28,22 @@ Bytes s = (j : ℕ) → getD s j 0 < 256
 abbrev pub PlacesOfRecords : Type 0
 PlacesOfRecords =
     (size place : ℕ)
-    → ((m : ℕ) → size ≡ 176 * m
+    → ((m : ℕ) → size ≡ recordBytes * m
     → (place < m → placeRefusal size place ≡ 0) × (m ≤ place → placeRefusal size place ≡ noSuchPlace))
-    × (((m : ℕ) → size ≡ 176 * m → ⊥) → placeRefusal size place ≡ tornFile)
+    × (((m : ℕ) → size ≡ recordBytes * m → ⊥) → placeRefusal size place ≡ tornFile)
 
 -- "the caller's own 176 bytes of the record at a given place": those of the file from 176 times the place on
 abbrev pub OwnBytes : Type 0
 OwnBytes =
     (file : List ℕ) (place : ℕ) → placeRefusal (length file) place ≡ 0
-    → (length (recordAt file place) ≡ 176)
-    × ((j : ℕ) → j < 176 → getD (recordAt file place) j 0 ≡ getD file (176 * place + j) 0)
+    → (length (recordAt file place) ≡ recordBytes)
+    × ((j : ℕ) → j < recordBytes → getD (recordAt file place) j 0 ≡ getD file (recordBytes * place + j) 0)
 
 -- ---- reading
 
 -- what is read from s where nothing is refused
-abbrev pub given : Content → Reading
-given v = record { refusal = 0; content = v }
+abbrev pub takenApart : Content → Reading
+takenApart v = record { refusal = 0; content = v }
 
 -- the tests that `read` makes are the rules, rule by rule
 abbrev pub TestsAreRules : Type 0
@@ -53,15 +53,15 @@ TestsAreRules = (s : List ℕ) → Bytes s → (meetsRules s ≡ true → Rules 
 abbrev pub TakesApartExactly : Type 0
 TakesApartExactly =
     (s : List ℕ) → Bytes s
-    → ((readOf s .refusal ≡ 0) → (length s ≡ 176) × Rules s)
-    × ((length s ≡ 176) → Rules s → readOf s ≡ given (contentAt s))
+    → ((readOf s .refusal ≡ 0) → (length s ≡ recordBytes) × Rules s)
+    × ((length s ≡ recordBytes) → Rules s → readOf s ≡ takenApart (contentAt s))
 
 -- "a length other than 176 is 16", "then 18 malformed record"
 abbrev pub TurnsAwayOthers : Type 0
 TurnsAwayOthers =
     (s : List ℕ) → Bytes s
-    → (((length s ≡ 176) → ⊥) → readOf s .refusal ≡ tornFile)
-    × ((length s ≡ 176) → (Rules s → ⊥) → readOf s .refusal ≡ malformedRecord)
+    → (((length s ≡ recordBytes) → ⊥) → readOf s .refusal ≡ tornFile)
+    × ((length s ≡ recordBytes) → (Rules s → ⊥) → readOf s .refusal ≡ malformedRecord)
 
 -- ---- writing
 
@@ -96,17 +96,18 @@ pub record Held (v : Content) : Type 0 where
 -- "Writing a read record gives its bytes again"
 abbrev pub WritesWhatWasRead : Type 0
 WritesWhatWasRead =
-    (s out : List ℕ) → Bytes s → (readOf s .refusal ≡ 0) → 176 ≤ length out
+    (s out : List ℕ) → Bytes s → (readOf s .refusal ≡ 0) → recordBytes ≤ length out
     → (writeAnswer (readOf s .content) out ≡ 0) × (writeOutput (readOf s .content) out ≡ stored out s)
 
 -- and what was written is read again as the same value
 abbrev pub ReadsWhatWasWritten : Type 0
 ReadsWhatWasWritten =
-    (v : Content) (out : List ℕ) → Held v → writeAnswer v out ≡ 0 → readOf (take 176 (writeOutput v out)) ≡ given v
+    (v : Content) (out : List ℕ) → Held v → writeAnswer v out ≡ 0
+    → readOf (take recordBytes (writeOutput v out)) ≡ takenApart v
 
 -- "any other value gets 18": 18 is given for exactly those that are read from no bytes
 abbrev pub RefusesWhatNoReadGives : Type 0
 RefusesWhatNoReadGives =
-    (v : Content) (out : List ℕ) → Held v → 176 ≤ length out
-    → (writeAnswer v out ≡ malformedRecord → (s : List ℕ) → Bytes s → (readOf s ≡ given v → ⊥))
-    × (((s : List ℕ) → Bytes s → (readOf s ≡ given v → ⊥)) → writeAnswer v out ≡ malformedRecord)
+    (v : Content) (out : List ℕ) → Held v → recordBytes ≤ length out
+    → (writeAnswer v out ≡ malformedRecord → (s : List ℕ) → Bytes s → (readOf s ≡ takenApart v → ⊥))
+    × (((s : List ℕ) → Bytes s → (readOf s ≡ takenApart v → ⊥)) → writeAnswer v out ≡ malformedRecord)

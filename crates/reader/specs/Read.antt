@@ -13,7 +13,7 @@ use Rattle.words.specs.Words.{i64At, f64At}
 use Rattle.problem.specs.declared.Altitude.{Altitude}
 use Rattle.problem.specs.declared.Altitude.the-variants.{None, Barometric, Gnss}
 use Rattle.record.specs.declared.content.Fix.{Fix}
-use Rattle.record.specs.Record.{fix, refusal, stored}
+use Rattle.record.specs.Record.{fix, refusal, stored, recordBytes}
 use Rattle.reader.specs.declared.content.Content.{Content}
 use Rattle.reader.specs.declared.content.Reading.{Reading}
 use Rattle.reader.specs.Rules.{answerAt, detailAt, nAt, maskAt, kindAt}
@@ -23,11 +23,13 @@ use Rattle.reader.specs.Tests.{zeros, goodN, meetsRules}
 
 -- "A file that isn't whole records is refused before its place is looked at": 16 torn file, then 17 no such place
 unfoldable pub placeRefusal : ℕ → ℕ → ℕ
-placeRefusal size place = cond (eqb (size % 176) 0) (cond (ltb place (size / 176)) 0 noSuchPlace) tornFile
+placeRefusal size place = cond (eqb (size % recordBytes) 0)
+    (cond (ltb place (size / recordBytes)) 0 noSuchPlace) tornFile
 
 -- "the caller's own 176 bytes of the record at a given place"; none where it is refused
 unfoldable pub recordAt : List ℕ → ℕ → List ℕ
-recordAt file place = cond (eqb (placeRefusal (length file) place) 0) (take 176 (drop (176 * place) file)) []
+recordAt file place = cond (eqb (placeRefusal (length file) place) 0)
+    (take recordBytes (drop (recordBytes * place) file)) []
 
 -- ---- what a record holds: document 01's table
 
@@ -101,7 +103,7 @@ turnedAway refusal = record { refusal = refusal; content = refused 0 0 0 }
 -- "a length other than 176 is 16", "18 malformed record"
 unfoldable pub readOf : List ℕ → Reading
 readOf s =
-    cond (eqb (length s) 176)
+    cond (eqb (length s) recordBytes)
     (cond (meetsRules s) (record { refusal = 0; content = contentAt s }) (turnedAway malformedRecord))
     (turnedAway tornFile)
 
@@ -124,7 +126,7 @@ readable v =
 
 -- 14: "under 176 bytes lent"; "any other value gets 18"
 unfoldable pub writeAnswer : Content → List ℕ → ℕ
-writeAnswer v out = cond (ltb (length out) 176) shortOutput (cond (readable v) 0 malformedRecord)
+writeAnswer v out = cond (ltb (length out) recordBytes) shortOutput (cond (readable v) 0 malformedRecord)
 
 -- the output afterwards: a refusal leaves it as found
 unfoldable pub writeOutput : Content → List ℕ → List ℕ

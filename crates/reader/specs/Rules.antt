@@ -9,9 +9,10 @@ use lib.Dec.{T, eqb}
 use lib.ListN.{getD}
 use Rattle.refusals.specs.Refusals as refusals
 use Rattle.binary64.specs.Steps.{isFinite}
-use Rattle.sets.specs.Sets.{count}
+use Rattle.sets.specs.Sets.{count, mostReceptions}
 use Rattle.sets.specs.Mask.{has}
 use Rattle.words.specs.Words.{u16At, u32At, f64At}
+use Rattle.record.specs.Record.{recordBytes}
 
 -- ---- the fields that a rule names
 
@@ -46,7 +47,7 @@ Finite s k = isFinite (f64At s k) ≡ true
 -- Document 01: dof is "used receptions, plus one with altitude, less 4", and "the number of ones in the mask is the
 -- count of used receptions". Nothing equals a dof below zero.
 abbrev pub IsDof : ℕ → ℕ → ℕ → Type 0
-IsDof mask kind detail = detail + 4 ≡ count (has mask) 32 + cond (eqb kind 0) 0 1
+IsDof mask kind detail = detail + 4 ≡ count (has mask) mostReceptions + cond (eqb kind 0) 0 1
 
 -- ---- the rules
 
@@ -74,18 +75,18 @@ pub record FixRules (s : List ℕ) : Type 0 where
   pub dof : IsDof (maskAt s) (kindAt s) (detailAt s)
   -- "fillers and unused fields are zero": the five bytes past the kind, and the metres where there is no altitude
   pub filler : Zero s 163 168
-  pub unused : kindAt s ≡ 0 → Zero s 168 176
+  pub unused : kindAt s ≡ 0 → Zero s 168 recordBytes
 
 pub record RefusalRules (s : List ℕ) : Type 0 where
   pub detail : DetailRule (answerAt s) (detailAt s)
   -- "unused fields are zero": n from 10 on, since a refusal shows it "for 1 to 9", and all that follows n
   pub n : 9 < answerAt s → nAt s ≡ 0
-  pub unused : Zero s 12 176
+  pub unused : Zero s 12 recordBytes
 
 pub record Rules (s : List ℕ) : Type 0 where
   -- "The answer is 0 to 13 or 15, n at most 32,"
   pub answer : (answerAt s ≤ 13) ⊎ (answerAt s ≡ 15)
-  pub n : nAt s ≤ 32
+  pub n : nAt s ≤ mostReceptions
   -- document 01: "For a fix the answer is 0"
   pub fix : answerAt s ≡ 0 → FixRules s
   pub refusal : (answerAt s ≡ 0 → ⊥) → RefusalRules s

@@ -13,6 +13,7 @@ use Rattle.words.specs.Words.{u16At, u32At, u64At, i64At, f64At}
 use Rattle.problem.specs.declared.Altitude.{Altitude}
 use Rattle.record.specs.declared.content.Fix.{Fix}
 use Rattle.record.specs.Record as shown
+use Rattle.record.specs.Record.{recordBytes}
 use Rattle.reader.specs.Rules.{Zero}
 
 -- '"f64" is a binary64 by its bits': those of x stand from byte k on
@@ -25,7 +26,7 @@ ShownIsRead = (s : List ℕ) (k : ℕ) (x : Float) → T (fits binary64 x) → S
 
 -- the bytes s show the fix f of n receptions, with this altitude
 pub record Stands (s : List ℕ) (n : ℕ) (altitude : Altitude) (f : Fix) : Type 0 where
-  pub size : length s ≡ 176
+  pub size : length s ≡ recordBytes
   -- "u32 each: answer number; detail; n, the receptions considered". "For a fix the answer is 0 and the detail is dof".
   pub answer : u32At s 0 ≡ 0
   pub detail : u32At s 4 ≡ f .dof
@@ -53,7 +54,7 @@ pub record Stands (s : List ℕ) (n : ℕ) (altitude : Altitude) (f : Fix) : Typ
   pub filler : Zero s 163 168
   -- "altitude metres, f64, zero bytes where none"
   pub metres : Shows s 168 (shown.metres altitude)
-  pub none : shown.kind altitude ≡ 0 → Zero s 168 176
+  pub none : shown.kind altitude ≡ 0 → Zero s 168 recordBytes
 
 -- the record of every fix is that, where its whole numbers are such as their fields can hold
 abbrev pub FixStands : Type 0

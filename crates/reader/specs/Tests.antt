@@ -6,7 +6,7 @@ use mathlib.Core.List.{List}
 use lib.Dec.{leb, ltb, eqb}
 use lib.ListN.{getD}
 use Rattle.binary64.specs.Steps.{isFinite}
-use Rattle.sets.specs.Sets.{count}
+use Rattle.sets.specs.Sets.{count, mostReceptions}
 use Rattle.sets.specs.Mask.{has}
 use Rattle.words.specs.Words.{f64At}
 use Rattle.reader.specs.Rules.{answerAt, detailAt, nAt, maskAt, versionAt, kindAt}
@@ -42,7 +42,7 @@ goodDetail answer detail =
 
 -- "n at most 32"; in a refusal the solve shows n "(for 1 to 9)", so it is unused from 10 on
 unfoldable pub goodN : ℕ → ℕ → Bool
-goodN answer n = leb n (cond (leb answer 9) 32 0)
+goodN answer n = leb n (cond (leb answer 9) mostReceptions 0)
 
 -- "a mask within n"
 unfoldable pub goodMask : ℕ → ℕ → Bool
@@ -50,7 +50,7 @@ goodMask mask n = ltb mask (2 ^ n)
 
 -- "a detail equal to its dof". Document 01: "dof: used receptions, plus one with altitude, less 4"
 unfoldable pub goodDof : ℕ → ℕ → ℕ → Bool
-goodDof mask kind detail = eqb (detail + 4) (count (has mask) 32 + cond (eqb kind 0) 0 1)
+goodDof mask kind detail = eqb (detail + 4) (count (has mask) mostReceptions + cond (eqb kind 0) 0 1)
 
 -- "finite floats": ECEF, T and the position; the covariance and chi2; the altitude metres
 unfoldable pub goodFloats : List ℕ → Bool
@@ -64,7 +64,7 @@ goodMetres kind s = not (eqb kind 0) || zeros s 168 8
 -- "fillers .. are zero": five bytes
 unfoldable pub goodFix : List ℕ → Bool
 goodFix s =
-    leb (nAt s) 32
+    leb (nAt s) mostReceptions
     && (eqb (versionAt s) 8
     && (leb (kindAt s) 2
     && (goodFloats s

@@ -21,7 +21,8 @@ use Rattle.receptions.specs.declared.ObservationId.{ObservationId}
 use Rattle.receptions.specs.declared.Reception.{Reception}
 use Rattle.receptions.specs.declared.Fields.{Fields}
 use Rattle.receptions.specs.Identities.{before, ascends}
-use Rattle.receptions.specs.Receptions.{blankId, none, listedAt, wholes, floats, fieldsOf, siteIn}
+use Rattle.receptions.specs.Receptions.{noReception, listedAt, wholes, floats, fieldsOf}
+use Rattle.receptions.specs.Held.{blankId, siteIn}
 use Rattle.receptions.proofs.Filling.{fill-next, fill-three, fill-at, fill-same}
 
 -- a list of 32 begins with the first i receptions
@@ -33,8 +34,8 @@ pub begins-next : (at : ℕ → Reception) (i : ℕ) (list : List Reception) {r 
 begins-next at i list {r} b l e = (length-set list i r ∙ b .0, λ k h. go k (eq-or-lt-of-le (let q : k ≤ i = omega arith in q)))
   where
     go : (k : ℕ) → (k ≡ i) ⊎ (k < i) → listedAt (set list i r) k ≡ at k
-    go k (inl q) = rw (q, e) (getD-set-same list i (at i) none (let m = b .0 in omega arith))
-    go k (inr q) = getD-set-other list i k r none (λ w. omega arith) ∙ b .1 k q
+    go k (inl q) = rw (q, e) (getD-set-same list i (at i) noReception (let m = b .0 in omega arith))
+    go k (inr q) = getD-set-other list i k r noReception (λ w. omega arith) ∙ b .1 k q
 
 -- ---- the bits of the identities' order
 

@@ -1,3 +1,4 @@
 pub mod Receptions
 pub mod Identities
 pub mod Meaning
+pub mod Held

@@ -1,13 +1,13 @@
 -- The receptions of a solve: those of receptions.bin, those of a caller's list, and as arrays by field. Document 01,
 -- 'The fix: 176 bytes' and 'Forms for parts of the code'; document 02, item 6. Definitions only.
 use mathlib.Core.List.{List, [], _∷_}
-use Prim.Native.Nat.{ℕ, zero, suc, _+_, _*_, _/_, _%_, _≤_}
-use mathlib.Core.Path.{_≡_}
+use Prim.Native.Nat.{ℕ, zero, suc, _+_, _*_, _/_, _%_}
 use lib.IntN.{ℤ, pos}
 use lib.ListN.{getD, set, replicate, take, drop}
 use lib.Ieee.{Float, nan}
 use Rattle.binary64.specs.Steps.{nought}
 use Rattle.sets.specs.Mask.{maskOf}
+use Rattle.sets.specs.Sets.{mostReceptions}
 use Rattle.words.specs.Words.{u32At, u64At, i64At, f64At}
 use Rattle.receptions.specs.declared.ObservationId.{ObservationId}
 use Rattle.receptions.specs.declared.Reception.{Reception}
@@ -53,20 +53,16 @@ wholes size = replicate size (pos 0)
 abbrev pub floats : ℕ → List Float
 floats size = replicate size nought
 
--- an identity of zeros
-abbrev pub blankId : ObservationId
-blankId = record { receiver = replicate 32 0; epoch = 0; timestamp = 0; message = replicate 32 0 }
-
 -- what stands behind a list, and is never read
 abbrev pub noId : ObservationId
 noId = record { receiver = []; epoch = 0; timestamp = 0; message = [] }
 
-abbrev pub none : Reception
-none = record { id = noId; time = pos 0; «site_mm» = []; z = nan; «noise_m2» = nan; filler = 0 }
+abbrev pub noReception : Reception
+noReception = record { id = noId; time = pos 0; «site_mm» = []; z = nan; «noise_m2» = nan; filler = 0 }
 
 -- "a thin entry takes the caller's own list of reception records": reception i
 abbrev pub listedAt : List Reception → ℕ → Reception
-listedAt receptions i = getD receptions i none
+listedAt receptions i = getD receptions i noReception
 
 -- the array a with f 0 to f (k - 1) at its start
 unfoldable pub fillTo : {A : Type 0} → List A → (ℕ → A) → ℕ → List A
@@ -80,22 +76,9 @@ unfolding fillTo maskOf
 fieldsOf at n =
     record {
       ascending = maskOf (ascends (λ i. at i .id)) n;
-      time = fillTo (wholes 32) (λ i. at i .time) n;
+      time = fillTo (wholes mostReceptions) (λ i. at i .time) n;
       «site_mm» = fillTo (wholes 96) (λ k. getD (at (k / 3) .«site_mm») (k % 3) (pos 0)) (3 * n);
-      z = fillTo (floats 32) (λ i. at i .z) n;
-      «noise_m2» = fillTo (floats 32) (λ i. at i .«noise_m2») n;
-      filler = fillTo (replicate 32 0) (λ i. at i .filler) n;
+      z = fillTo (floats mostReceptions) (λ i. at i .z) n;
+      «noise_m2» = fillTo (floats mostReceptions) (λ i. at i .«noise_m2») n;
+      filler = fillTo (replicate mostReceptions 0) (λ i. at i .filler) n;
     }
-
--- the arrays f hold these n receptions; of over 32 none is unpacked
-abbrev pub Holds : Fields → ℕ → (ℕ → Reception) → Type 0
-Holds f n at = n ≤ 32 → f ≡ fieldsOf at n
-
--- the arrays f hold n receptions
-abbrev pub Filled : Fields → ℕ → Type 0
-Filled f n = (at : ℕ → Reception) × Holds f n at
-
--- the three coordinates of site i
-abbrev pub siteIn : List ℤ → ℕ → List ℤ
-siteIn sites i =
-    getD sites (3 * i) (pos 0) ∷ getD sites (3 * i + 1) (pos 0) ∷ getD sites (3 * i + 2) (pos 0) ∷ []

@@ -6,7 +6,8 @@ ghost use mathlib.Core.Bool.{cond};
 ghost use Prim.Native.Nat.{_+_, _*_, _^_, _<_, _≤_};
 ghost use lib.IntN.{pos};
 ghost use lib.ListN.{length, set, getD};
-ghost use Rattle.receptions.specs.Receptions.{receptionBytes, blankId, partAt, idAt, receptionAt};
+ghost use Rattle.receptions.specs.Receptions.{receptionBytes, partAt, idAt, receptionAt};
+ghost use Rattle.receptions.specs.Held.{blankId};
 ghost use Rattle.receptions.specs.Receptions.{listedAt, fieldsOf};
 use identity::ascends;
 

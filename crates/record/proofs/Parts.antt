@@ -5,11 +5,11 @@ use mathlib.Core.List.{List}
 use Rattle.words.specs.Words.{putU32, putI64, putF64}
 use Rattle.problem.specs.declared.Altitude.{Altitude}
 use Rattle.record.specs.declared.content.Fix.{Fix}
-use Rattle.record.specs.Record.{putThree, written, head, foot, blank, fix}
+use Rattle.record.specs.Record.{putThree, written, head, foot, blankRecord, fix}
 
 pub parts
     : (n : ℕ) (altitude : Altitude) (f : Fix) (a b c d e g h i j k l o q : List ℕ)
-    → a ≡ written blank (head 0 (f .dof) n)
+    → a ≡ written blankRecord (head 0 (f .dof) n)
     → b ≡ putU32 a 12 (f .mask)
     → c ≡ putThree b 16 (f .ecef)
     → d ≡ putF64 c 40 (f .t)

@@ -63,13 +63,17 @@ metres (Gnss m) = m
 abbrev pub foot : Altitude → List Row
 foot altitude = from 160 (u16 8) ∷ from 162 (u8 (kind altitude)) ∷ from 168 (f64 (metres altitude)) ∷ []
 
-abbrev pub blank : List ℕ
-blank = replicate 176 0
+-- document 01: "The fix: 176 bytes"
+abbrev pub recordBytes : ℕ
+recordBytes = 176
+
+abbrev pub blankRecord : List ℕ
+blankRecord = replicate recordBytes 0
 
 -- 'The fix: 176 bytes', by its table. "For a fix the answer is 0 and the detail is dof".
 unfoldable pub fix : ℕ → Altitude → Fix → List ℕ
 fix n altitude f =
-    written blank
+    written blankRecord
     (head 0 (f .dof) n
     ++ from 12 (u32 (f .mask))
     ∷ from 16 (three-f64 (f .ecef))
@@ -86,8 +90,8 @@ fix n altitude f =
 
 -- "Any other refusal writes number, detail and (for 1 to 9) n; the remaining bytes up to 176 are zero."
 unfoldable pub refusal : ℕ → ℕ → ℕ → List ℕ
-refusal number detail n = written blank (head number detail (cond (leb number 9) n 0))
+refusal number detail n = written blankRecord (head number detail (cond (leb number 9) n 0))
 
 -- the output once a record is stored: "Bytes past 176 never change."
 abbrev pub stored : List ℕ → List ℕ → List ℕ
-stored out r = r ++ drop 176 out
+stored out r = r ++ drop recordBytes out

@@ -7,7 +7,7 @@ use Prim.Native.Nat.{ℕ, suc, _+_, _*_, _-_, _≤_}
 use native.Mathlib.Omega.{arith}
 use Rattle.problem.specs.declared.Problem.{Problem}
 use Rattle.rounds.specs.Setting.{Answer, noFixedPoint, Setting, kept, survivors}
-use Rattle.rounds.specs.Rounds.{roundsTo, solved}
+use Rattle.rounds.specs.Rounds.{roundsTo, outlierRounds}
 use Rattle.rounds.specs.Demand.{EachChanged, rounds}
 use Rattle.rounds.specs.Solve.{solveProblem}
 use Rattle.rounds.specs.Unmoved.{capped, CapReached, SameAtLarger, CapsOfSolve}
@@ -48,7 +48,7 @@ same-at-larger Q F X P cap larger l h = same P cap larger l h
 
 -- ---- of the solve
 of-solve : (P : Problem) → solveProblem P ≡ capped (rounds P) (2 * survivors (rounds P) + 2)
-unfolding solveProblem solved
+unfolding solveProblem outlierRounds
 of-solve P = refl
 
 pub caps-of-solve : CapsOfSolve

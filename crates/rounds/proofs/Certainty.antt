@@ -4,7 +4,7 @@ use mathlib.Core.Bool.{Bool, true, false}
 use mathlib.Core.List.{List}
 use lib.Ieee.{Float, round, ofBits}
 use Rattle.binary64.specs.Steps.{#, decimal}
-use Rattle.dense.specs.Factor.{verdict}
+use Rattle.dense.specs.Held.{verdict}
 use Rattle.rounds.specs.Finish.{definite}
 
 -- `MAX_SIGMA_M`

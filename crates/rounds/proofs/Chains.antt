@@ -9,7 +9,7 @@ use lib.Dec.{T}
 use Rattle.sets.specs.Sets.{Subset}
 use Rattle.rounds.specs.declared.answer.Refusal.{Refusal}
 use Rattle.rounds.specs.Setting.{Answer, refused, noFixedPoint, Setting, kept}
-use Rattle.rounds.specs.Rounds.{Step, ends, changes, settles, round, closed, after, roundsTo}
+use Rattle.rounds.specs.Rounds.{Step, ends, changes, settles, round, closed, answerAfter, roundsTo}
 use Rattle.rounds.specs.Demand.{Change, removal, return, Settled, Ends, Chain, start, then}
 use Rattle.rounds.proofs.Choices.{out-kept, Within}
 use Rattle.rounds.proofs.Steps.{Says, round-says, says-round}
@@ -30,9 +30,9 @@ module _ {Q F X : Type 0} (P : Setting Q F X) where
 
   -- ---- the computation follows a chain
   after-round : (k : ℕ) (S : Subset) (p : Option Q) (x : Step F) → Within P S → Says P S p x → roundsTo P (suc k) S p
-      ≡ after P (λ R q. roundsTo P k R q) S x
+      ≡ answerAfter P (λ R q. roundsTo P k R q) S x
   unfolding roundsTo
-  after-round k S p x W h = ap (after P (λ R q. roundsTo P k R q) S) (says-round P S p W x h)
+  after-round k S p x W h = ap (answerAfter P (λ R q. roundsTo P k R q) S) (says-round P S p W x h)
 
   pub after-chain : {E S : Subset} {p q : Option Q} {k : ℕ} → Chain P k S p E q → Within P S → (m d : ℕ) → m ≡ k + d → roundsTo P m S p
       ≡ roundsTo P d E q
@@ -64,7 +64,7 @@ module _ {Q F X : Type 0} (P : Setting Q F X) where
   run (suc m) S p W = go (round P S p) (round-says P S p W) (λ R q v. run m R q v)
     where
       go : (x : Step F) → Says P S p x → ((R : Subset) (q : Option Q) → Within P R → Run m R q (roundsTo P m R q))
-          → Run (suc m) S p (after P (λ R q. roundsTo P m R q) S x)
+          → Run (suc m) S p (answerAfter P (λ R q. roundsTo P m R q) S x)
       go (ends e) h rec = ended 0 e (omega arith) start h refl
       go (changes R f) h rec = one-more m (roundsTo P m R (some (P .params f))) h (rec R (some (P .params f)) (change-within h W))
       go (settles f) h rec = settled 0 f (omega arith) start h refl

@@ -11,7 +11,7 @@ use Rattle.sets.specs.Choice.{FirstBest, IsChoice, Ranks}
 use Rattle.sets.proofs.Tests.{either, and-l, and-r, and-both}
 use Rattle.sets.proofs.Choosing.{choose-is}
 use Rattle.rounds.specs.Setting.{Setting, five, kept}
-use Rattle.rounds.specs.Rounds.{above, greater, worst, near, less, least}
+use Rattle.rounds.specs.Rounds.{above, greater, worst, readmissible, less, least}
 use Rattle.rounds.specs.Demand.{Worst, NoneAbove, leftOut, Least}
 use Rattle.best.proofs.Order.{lt-split, lt-asym, lt-right, le-left, lt-trans, le-of-not-lt, lt-of-not-le, le-lt}
 
@@ -47,7 +47,7 @@ ranks-greater S z = record {
   split = λ i j k t h. turned (lt-split (z k) (z j) (z i) (lt-right five (z j) (above-of S z j t .1)) h);
 }
 
-pub ranks-less : (K S : Subset) (z : ℕ → Float) → Ranks (near K S z) (less z)
+pub ranks-less : (K S : Subset) (z : ℕ → Float) → Ranks (readmissible K S z) (less z)
 ranks-less K S z = record {
   asym = λ i j h k. lt-asym (z i) (z j) h k;
   split = λ i j k t h. lt-split (z i) (z j) (z k) (le-left (z j) five (and-r (K j && not (S j)) (le (z j) five) t)) h;
@@ -58,10 +58,10 @@ module _ {Q F X : Type 0} (P : Setting Q F X) where
   pub out-kept : (S : Subset) (j : ℕ) → T (leftOut P S j) → T (kept P j)
   out-kept S j t = and-l (kept P j) (not (S j)) t
 
-  near-of : (S : Subset) (z : ℕ → Float) (i : ℕ) → T (near (kept P) S z i) → T (leftOut P S i) × T (le (z i) five)
+  near-of : (S : Subset) (z : ℕ → Float) (i : ℕ) → T (readmissible (kept P) S z i) → T (leftOut P S i) × T (le (z i) five)
   near-of S z i t = (and-l (leftOut P S i) (le (z i) five) t, and-r (leftOut P S i) (le (z i) five) t)
 
-  of-near : (S : Subset) (z : ℕ → Float) (i : ℕ) → T (leftOut P S i) → T (le (z i) five) → T (near (kept P) S z i)
+  of-near : (S : Subset) (z : ℕ → Float) (i : ℕ) → T (leftOut P S i) → T (le (z i) five) → T (readmissible (kept P) S z i)
   of-near S z i t u = and-both (leftOut P S i) (le (z i) five) t u
 
   -- only kept receptions are included
@@ -75,14 +75,14 @@ module _ {Q F X : Type 0} (P : Setting Q F X) where
   IsWorst S f o = IsChoice (above S (P .residual f)) (greater (P .residual f)) (P .n) o
 
   abbrev pub IsLeast : Subset → F → Option ℕ → Type 0
-  IsLeast S f o = IsChoice (near (kept P) S (P .residual f)) (less (P .residual f)) (P .n) o
+  IsLeast S f o = IsChoice (readmissible (kept P) S (P .residual f)) (less (P .residual f)) (P .n) o
 
   -- ---- the passes find the choices
   pub worst-is : (S : Subset) (f : F) → IsWorst S f (worst S (P .residual f) (P .n))
   worst-is S f = choose-is (above S (P .residual f)) (greater (P .residual f)) (ranks-greater S (P .residual f)) (P .n)
 
   pub least-is : (S : Subset) (f : F) → IsLeast S f (least (kept P) S (P .residual f) (P .n))
-  least-is S f = choose-is (near (kept P) S (P .residual f)) (less (P .residual f)) (ranks-less (kept P) S (P .residual f)) (P .n)
+  least-is S f = choose-is (readmissible (kept P) S (P .residual f)) (less (P .residual f)) (ranks-less (kept P) S (P .residual f)) (P .n)
 
   -- ---- the choices, where every kept residual is a number
   module _ (S : Subset) (f : F) (W : Within S) (N : Numbers f) where
@@ -128,10 +128,10 @@ module _ {Q F X : Type 0} (P : Setting Q F X) where
     some-worst i w = first-of-fewer S (above S z) (greater z) (P .n) i (λ j t. above-of S z j t .0) (of-above S z i (w .0 .candidate) (w .1)) (w .0)
 
     pub least-none : IsLeast S f none → (j : ℕ) → j < P .n → T (leftOut P S j) → T (lt five (z j))
-    least-none h j l o = more j l (out-kept S j o) (not-T (le (z j) five) (λ u. T-not (near (kept P) S z j) (h j l) (of-near S z j o u)))
+    least-none h j l o = more j l (out-kept S j o) (not-T (le (z j) five) (λ u. T-not (readmissible (kept P) S z j) (h j l) (of-near S z j o u)))
 
     pub none-least : ((j : ℕ) → j < P .n → T (leftOut P S j) → T (lt five (z j))) → IsLeast S f none
-    none-least h j l = not-T (near (kept P) S z j) (λ t. let a = near-of S z j t in le-lt five (z j) (a .1) (h j l (a .0)))
+    none-least h j l = not-T (readmissible (kept P) S z j) (λ t. let a = near-of S z j t in le-lt five (z j) (a .1) (h j l (a .0)))
 
     pub least-some : (i : ℕ) → IsLeast S f (some i) → Least P S f i
     least-some i h = (
@@ -160,5 +160,5 @@ module _ {Q F X : Type 0} (P : Setting Q F X) where
             [ inl v ↦ absurd (le-lt five (z i) (a .1) v) | inr v ↦ v ]
 
     pub some-least : (i : ℕ) → Least P S f i → IsLeast S f (some i)
-    some-least i w = first-of-fewer (leftOut P S) (near (kept P) S z) (less z) (P .n) i (λ j t. near-of S z j t .0)
+    some-least i w = first-of-fewer (leftOut P S) (readmissible (kept P) S z) (less z) (P .n) i (λ j t. near-of S z j t .0)
         (of-near S z i (w .0 .candidate) (w .1)) (w .0)

@@ -4,11 +4,11 @@ use mathlib.Core.Option.{Option, none}
 use Prim.Native.Nat.{ℕ, suc, _+_, _*_, _-_}
 use native.Mathlib.Omega.{arith}
 use Rattle.sets.specs.Sets.{Subset}
-use Rattle.best.specs.Best.{Outcome, fails, gives}
+use Rattle.best.specs.Best.{Outcome, refuses, gives}
 use Rattle.rounds.specs.declared.answer.Refusal.{Refusal}
 use Rattle.rounds.specs.declared.finish.Unpublished.{Unpublished}
 use Rattle.rounds.specs.Setting.{ofUnpublished, Answer, fix, refused, noFixedPoint, Setting, kept, survivors}
-use Rattle.rounds.specs.Rounds.{closed, roundsTo, solved}
+use Rattle.rounds.specs.Rounds.{closed, roundsTo, outlierRounds}
 use Rattle.rounds.specs.Demand.{Settled, Ends, InTime, EachChanged, Remaining, Fixed, Refused, early, late, Claim, Exactly}
 use Rattle.rounds.proofs.Chains.{all-kept, chain-within, after-chain, after-settled, after-end, Run, ended, settled, never, run}
 
@@ -19,15 +19,15 @@ module _ {Q F X : Type 0} (P : Setting Q F X) where
   -- ---- the three kinds of answer are apart
 
   closed-fix : (x : X) (o : Outcome Unpublished X) → closed o ≡ fix x → o ≡ gives x
-  closed-fix x (fails e) h = absurd (let z : _≡_ {A = ℕ} 0 1 = cc in omega arith)
+  closed-fix x (refuses e) h = absurd (let z : _≡_ {A = ℕ} 0 1 = cc in omega arith)
   closed-fix x (gives y) h = cc
 
-  closed-refused : (e : Refusal) (o : Outcome Unpublished X) → closed o ≡ refused e → (t : Unpublished) × (o ≡ fails t) × (e ≡ ofUnpublished t)
-  closed-refused e (fails t) h = (t, refl, cc)
+  closed-refused : (e : Refusal) (o : Outcome Unpublished X) → closed o ≡ refused e → (t : Unpublished) × (o ≡ refuses t) × (e ≡ ofUnpublished t)
+  closed-refused e (refuses t) h = (t, refl, cc)
   closed-refused e (gives y) h = absurd (let z : _≡_ {A = ℕ} 0 1 = cc in omega arith)
 
   pub closed-never : (o : Outcome Unpublished X) → closed o ≡ noFixedPoint → ⊥
-  closed-never (fails e) h = let z : _≡_ {A = ℕ} 0 1 = cc in omega arith
+  closed-never (refuses e) h = let z : _≡_ {A = ℕ} 0 1 = cc in omega arith
   closed-never (gives y) h = let z : _≡_ {A = ℕ} 0 1 = cc in omega arith
 
 -- the remaining steps come to what L says of them
@@ -63,41 +63,41 @@ module _ {Q F X : Type 0} (P : Setting Q F X) (L : Remaining F X) (exact : Exact
     unfixed-of h (settled {E = E} k f l s w q) = absurd (closed-never P (P .later E f) (sym q ∙ h))
 
   -- ---- from the rounds to the answer
-  settles : (S : Subset) (p : Option Q) (f : F) → InTime P S p → Settled P S p f → solved P ≡ closed (P .later S f)
-  unfolding solved
+  settles : (S : Subset) (p : Option Q) (f : F) → InTime P S p → Settled P S p f → outlierRounds P ≡ closed (P .later S f)
+  unfolding outlierRounds
   settles S p f t h = after-chain P (t .chain) (all-kept P) (cap P) (suc (cap P - suc (t .changes))) (omega (arith, t .most))
       ∙ after-settled P S p f (cap P - suc (t .changes)) (chain-within P (t .chain) (all-kept P)) h
 
-  ends : (S : Subset) (p : Option Q) (e : Refusal) → InTime P S p → Ends P S p e → solved P ≡ refused e
-  unfolding solved
+  ends : (S : Subset) (p : Option Q) (e : Refusal) → InTime P S p → Ends P S p e → outlierRounds P ≡ refused e
+  unfolding outlierRounds
   ends S p e t h = after-chain P (t .chain) (all-kept P) (cap P) (suc (cap P - suc (t .changes))) (omega (arith, t .most))
       ∙ after-end P S p e (cap P - suc (t .changes)) (chain-within P (t .chain) (all-kept P)) h
 
-  of-fixed : (x : X) → Fixed P L x → solved P ≡ fix x
+  of-fixed : (x : X) → Fixed P L x → outlierRounds P ≡ fix x
   of-fixed x h = settles (h .used) (h .before) (h .best) (h .inTime) (h .settled) ∙ ap (closed) (exact .shows (h .used) (h .best) x .1 (h .shown))
 
-  of-refused : (e : Refusal) → Refused P L e → solved P ≡ refused e
+  of-refused : (e : Refusal) → Refused P L e → outlierRounds P ≡ refused e
   of-refused e (early S p d t w) = ends S p d t w
   of-refused e (late S p f u t w r) = settles S p f t w ∙ ap (closed) (exact .withholds S f u .1 r)
 
-  of-unfixed : EachChanged P (cap P) → solved P ≡ noFixedPoint
-  unfolding solved roundsTo
+  of-unfixed : EachChanged P (cap P) → outlierRounds P ≡ noFixedPoint
+  unfolding outlierRounds roundsTo
   of-unfixed h = after-chain P (h .2) (all-kept P) (cap P) 0 (omega arith)
 
-  solved-run : Run P (cap P) (kept P) none (solved P)
-  unfolding solved
+  solved-run : Run P (cap P) (kept P) none (outlierRounds P)
+  unfolding outlierRounds
   solved-run = run P (cap P) (kept P) none (all-kept P)
 
   -- ---- the claim holds of the computation's answer
-  pub claim : Claim P L (solved P)
+  pub claim : Claim P L (outlierRounds P)
   claim = record {
-    fixed = λ x. ((λ e. fixed-of (solved P) x e solved-run), of-fixed x);
-    refusals = λ e. ((λ q. refused-of (solved P) e q solved-run), of-refused e);
-    unfixed = ((λ q. unfixed-of (solved P) q solved-run), of-unfixed);
+    fixed = λ x. ((λ e. fixed-of (outlierRounds P) x e solved-run), of-fixed x);
+    refusals = λ e. ((λ q. refused-of (outlierRounds P) e q solved-run), of-refused e);
+    unfixed = ((λ q. unfixed-of (outlierRounds P) q solved-run), of-unfixed);
   }
 
   -- and of no other
-  pub only : (a : Answer X) → Claim P L a → a ≡ solved P
+  pub only : (a : Answer X) → Claim P L a → a ≡ outlierRounds P
   only (fix x) c = sym (claim .fixed x .1 (c .fixed x .0 refl))
   only (refused e) c = sym (claim .refusals e .1 (c .refusals e .0 refl))
   only noFixedPoint c = sym (claim .unfixed .1 (c .unfixed .0 refl))

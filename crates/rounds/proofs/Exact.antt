@@ -14,13 +14,13 @@ use Rattle.sets.specs.Mask.{maskOf}
 use Rattle.sets.proofs.Tests.{either, T→eq, F→eq, eq→T, eq→F, or-l, or-r, or-cases}
 use Rattle.limits.specs.Local.{entry}
 use Rattle.damped.specs.declared.Fit.{Fit}
-use Rattle.best.specs.Best.{Outcome, fails, gives}
+use Rattle.best.specs.Best.{Outcome, refuses, gives}
 use Rattle.best.specs.OfProblem.{Receptions, receptionsOf, whitenerOver}
 use Rattle.problem.specs.declared.Problem.{Problem}
 use Rattle.record.specs.declared.content.Fix.{Fix}
 use Rattle.rounds.specs.declared.finish.Unpublished.{Unpublished}
 use Rattle.rounds.specs.declared.finish.Unpublished.the-variants.{Inconsistent, Singular, Uncertain, OutOfRange}
-use Rattle.rounds.specs.Finish.{held, maxVarianceM2, wide, definite, certain, fixOf, inverted, finish, cholesky3}
+use Rattle.rounds.specs.Finish.{fitsI64, maxVarianceM2, wide, definite, certain, fixOf, inverted, finish, cholesky3}
 use Rattle.rounds.specs.Solve.{dofOf, tested, later}
 use Rattle.rounds.specs.Demand.{LaterExactly}
 use Rattle.rounds.specs.Later.{TooWide, variance, indefinite, Certain, limitBy, finalFactor, covarianceBy, transmit, Consistent}
@@ -91,15 +91,15 @@ module _ (R : Receptions) (reference : ℤ) (S : Subset) (fit : Fit) where
     inconsistent : (l : List Float) → whitenerOver R S ≡ found l → T (lt (limitBy R reference S fit l) (fit .cost)) → Came
     uninformed : (l m : List Float) → Consistent R reference S fit l → finalFactor fit ≡ refused m → Came
     uncertain : (l m : List Float) → Informed R reference S fit l m → TooWide (covarianceBy m) → Came
-    beyond : (l m : List Float) → Informed R reference S fit l m → Certain (covarianceBy m) → T (not (held (transmit reference fit))) → Came
-    shows : (l m : List Float) → Informed R reference S fit l m → Certain (covarianceBy m) → T (held (transmit reference fit)) → Came
+    beyond : (l m : List Float) → Informed R reference S fit l m → Certain (covarianceBy m) → T (not (fitsI64 (transmit reference fit))) → Came
+    shows : (l m : List Float) → Informed R reference S fit l m → Certain (covarianceBy m) → T (fitsI64 (transmit reference fit)) → Came
 
   abbrev outcome : Came → Outcome Unpublished Fix
-  outcome (unwhitened l w) = fails Singular
-  outcome (inconsistent l w t) = fails Inconsistent
-  outcome (uninformed l m h f) = fails Singular
-  outcome (uncertain l m h t) = fails Uncertain
-  outcome (beyond l m h k t) = fails OutOfRange
+  outcome (unwhitened l w) = refuses Singular
+  outcome (inconsistent l w t) = refuses Inconsistent
+  outcome (uninformed l m h f) = refuses Singular
+  outcome (uncertain l m h t) = refuses Uncertain
+  outcome (beyond l m h k t) = refuses OutOfRange
   outcome (shows l m h k t) = gives (x m)
 
   -- ---- one of them does
@@ -107,13 +107,13 @@ module _ (R : Receptions) (reference : ℤ) (S : Subset) (fit : Fit) where
   came = whitening (whitenerOver R S) refl
     where
       timed : (l m : List Float) → Informed R reference S fit l m → Certain (covarianceBy m)
-          → T (held (transmit reference fit)) ⊎ T (not (held (transmit reference fit))) → Came
+          → T (fitsI64 (transmit reference fit)) ⊎ T (not (fitsI64 (transmit reference fit))) → Came
       timed l m h k (inl t) = shows l m h k t
       timed l m h k (inr t) = beyond l m h k t
 
       covered : (l m : List Float) → Informed R reference S fit l m → Came
       covered l m h = elim (certain-cases (covarianceBy m)) [
-        | inl k ↦ timed l m h (k .0) (either (held (transmit reference fit)))
+        | inl k ↦ timed l m h (k .0) (either (fitsI64 (transmit reference fit)))
         | inr k
             ↦ uncertain l m h (k .0)
       ]
@@ -140,8 +140,8 @@ module _ (R : Receptions) (reference : ℤ) (S : Subset) (fit : Fit) where
   by-whitener F e = ap (tested R reference S fit) e
 
   by-limit : (l : List Float) (b : Bool) → whitenerOver R S ≡ found l → lt (limitBy R reference S fit l) (fit .cost) ≡ b → later R reference S fit
-      ≡ cond b (fails Inconsistent) finished
-  by-limit l b w e = by-whitener (found l) w ∙ ap (λ (t : Bool). cond t (fails Inconsistent) finished) e
+      ≡ cond b (refuses Inconsistent) finished
+  by-limit l b w e = by-whitener (found l) w ∙ ap (λ (t : Bool). cond t (refuses Inconsistent) finished) e
 
   by-factor : (l : List Float) → Consistent R reference S fit l → (F : Factor) → finalFactor fit ≡ F → later R reference S fit
       ≡ inverted (maskOf S (R .n)) (dofOf R S) reference fit F
@@ -149,24 +149,24 @@ module _ (R : Receptions) (reference : ℤ) (S : Subset) (fit : Fit) where
   by-factor l h F e = by-limit l false (h .whitens) (F→eq (lt (limitBy R reference S fit l) (fit .cost)) (h .within))
       ∙ ap (inverted (maskOf S (R .n)) (dofOf R S) reference fit) e
 
-  by-tests : (l m : List Float) → Informed R reference S fit l m → (a b : Bool) → certain (covarianceBy m) ≡ a → held (transmit reference fit) ≡ b
-      → later R reference S fit ≡ cond a (cond b (gives (x m)) (fails OutOfRange)) (fails Uncertain)
+  by-tests : (l m : List Float) → Informed R reference S fit l m → (a b : Bool) → certain (covarianceBy m) ≡ a → fitsI64 (transmit reference fit) ≡ b
+      → later R reference S fit ≡ cond a (cond b (gives (x m)) (refuses OutOfRange)) (refuses Uncertain)
   by-tests l m h a b e f =
       by-factor l (h .consistent) (found m) (h .factors)
-      ∙ ap₂ (λ (s t : Bool). cond s (cond t (gives (x m)) (fails OutOfRange)) (fails Uncertain)) e f
+      ∙ ap₂ (λ (s t : Bool). cond s (cond t (gives (x m)) (refuses OutOfRange)) (refuses Uncertain)) e f
 
   came-out : (c : Came) → later R reference S fit ≡ outcome c
   came-out (unwhitened l w) = by-whitener (refused l) w
   came-out (inconsistent l w t) = by-limit l true w (T→eq (lt (limitBy R reference S fit l) (fit .cost)) t)
   came-out (uninformed l m h f) = by-factor l h (refused m) f
-  came-out (uncertain l m h t) = by-tests l m h false (held (transmit reference fit)) (is-wide (covarianceBy m) t) refl
-  came-out (beyond l m h k t) = by-tests l m h true false (is-certain (covarianceBy m) k) (F→eq (held (transmit reference fit)) t)
-  came-out (shows l m h k t) = by-tests l m h true true (is-certain (covarianceBy m) k) (T→eq (held (transmit reference fit)) t)
+  came-out (uncertain l m h t) = by-tests l m h false (fitsI64 (transmit reference fit)) (is-wide (covarianceBy m) t) refl
+  came-out (beyond l m h k t) = by-tests l m h true false (is-certain (covarianceBy m) k) (F→eq (fitsI64 (transmit reference fit)) t)
+  came-out (shows l m h k t) = by-tests l m h true true (is-certain (covarianceBy m) k) (T→eq (fitsI64 (transmit reference fit)) t)
 
   -- ---- each outcome is what is said of it
   abbrev Said : Outcome Unpublished Fix → Type 0
   Said (gives y) = Published R reference S fit y
-  Said (fails u) = Withheld R reference S fit u
+  Said (refuses u) = Withheld R reference S fit u
 
   said : (c : Came) → Said (outcome c)
   said (unwhitened l w) = inl (l, w)
@@ -179,7 +179,7 @@ module _ (R : Receptions) (reference : ℤ) (S : Subset) (fit : Fit) where
   pub gives-said : (o : Outcome Unpublished Fix) → later R reference S fit ≡ o → Said o
   gives-said o e = subst Said (sym (came-out came) ∙ e) (said came)
 
-  withheld-given : (u : Unpublished) → Withheld R reference S fit u → later R reference S fit ≡ fails u
+  withheld-given : (u : Unpublished) → Withheld R reference S fit u → later R reference S fit ≡ refuses u
   withheld-given Singular (inl h) = came-out (unwhitened (h .0) (h .1))
   withheld-given Singular (inr h) = came-out (uninformed (h .0) (h .1) (h .2) (h .3))
   withheld-given Inconsistent h = came-out (inconsistent (h .0) (h .1) (h .2))
@@ -188,10 +188,14 @@ module _ (R : Receptions) (reference : ℤ) (S : Subset) (fit : Fit) where
 
   pub said-given : (o : Outcome Unpublished Fix) → Said o → later R reference S fit ≡ o
   said-given (gives y) h = came-out (shows (h .l) (h .m) (h .informed) (h .certain) (h .inI64)) ∙ ap gives (sym (h .shows))
-  said-given (fails u) h = withheld-given u h
+  said-given (refuses u) h = withheld-given u h
 
 pub exact : LaterExactly
 exact P = record {
   shows = λ S f x. (gives-said (receptionsOf P) (P .«reference_ps») S f (gives x), said-given (receptionsOf P) (P .«reference_ps») S f (gives x));
-  withholds = λ S f u. (gives-said (receptionsOf P) (P .«reference_ps») S f (fails u), said-given (receptionsOf P) (P .«reference_ps») S f (fails u));
+  withholds = λ S f u. (
+    gives-said (receptionsOf P) (P .«reference_ps») S f (refuses u),
+    said-given (receptionsOf P) (P .«reference_ps») S f
+        (refuses u),
+  );
 }

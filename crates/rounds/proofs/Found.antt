@@ -19,19 +19,19 @@ use Rattle.sets.proofs.Masks.{set-of-mask}
 use Rattle.screen.specs.Pair as pair
 use Rattle.screen.proofs.Removal.{kept-below, kept-pass}
 use Rattle.problem.specs.declared.Problem.{Problem}
-use Rattle.problem.specs.Problem.{position, moment, four, minimum}
+use Rattle.problem.specs.Problem.{position, transmitM, four, minimum, range}
 use Rattle.whitening.specs.Whitened.{Chosen, residual, rawRow, whitened}
 use Rattle.damped.specs.declared.Fit.{Fit}
 use Rattle.limits.specs.Heights.{minHeightM, maxHeightM}
-use Rattle.best.specs.Plausible.{maxRangeM, range}
-use Rattle.best.specs.Best.{fails, gives}
+use Rattle.best.specs.Plausible.{maxRangeM}
+use Rattle.best.specs.Best.{refuses, gives}
 use Rattle.best.specs.OfProblem.{Receptions, receptionsOf, whitenerOver, chosenOver, startsOver}
 use Rattle.best.specs.Meaning.{Plausible, IsBest, IsBestOver}
 use Rattle.best.proofs.Over.{answered-over}
 use Rattle.record.specs.declared.content.Fix.{Fix}
 use Rattle.rounds.specs.declared.finish.Unpublished.the-variants.{Uncertain, OutOfRange}
 use Rattle.rounds.specs.Setting.{Answer, five, kept}
-use Rattle.rounds.specs.Finish.{held, transmitPs, certain, fixOf, inverted, finish}
+use Rattle.rounds.specs.Finish.{fitsI64, transmitPs, certain, fixOf, inverted, finish}
 use Rattle.rounds.specs.Solve.{limitAt, normalised, dofOf, settingAt, solveProblem}
 use Rattle.rounds.specs.Later.{covarianceBy, transmit, Published}
 use Rattle.rounds.specs.Demand.{Fixed, Claim, rounds, remaining, usedBy, paramsBy, Found, DemandMet, OneAnswer}
@@ -47,7 +47,7 @@ pub finish-fix
 unfolding finish
 finish-fix mask dof reference fit x e = go (cholesky (fit .information) 4 (replicate 16 nought)) e
   where
-    tests : (a b : Bool) (c : List (List Float)) (ps : ℤ) → cond a (cond b (gives (fixOf mask dof fit c ps)) (fails OutOfRange)) (fails Uncertain)
+    tests : (a b : Bool) (c : List (List Float)) (ps : ℤ) → cond a (cond b (gives (fixOf mask dof fit c ps)) (refuses OutOfRange)) (refuses Uncertain)
         ≡ gives x → x ≡ fixOf mask dof fit c ps
     tests false b c ps q = absurd (let z : _≡_ {A = ℕ} 0 1 = cc in omega arith)
     tests true false c ps q = absurd (let z : _≡_ {A = ℕ} 0 1 = cc in omega arith)
@@ -59,8 +59,8 @@ finish-fix mask dof reference fit x e = go (cholesky (fit .information) 4 (repli
     go (refused l) q = absurd (let z : _≡_ {A = ℕ} 0 1 = cc in omega arith)
     go (found l) q =
         let c : List (List Float) = covarianceBy l in
-        let ps : ℤ = transmitPs reference (moment (fit .params)) in
-        (l, ps, tests (certain c) (held ps) c ps q)
+        let ps : ℤ = transmitPs reference (transmitM (fit .params)) in
+        (l, ps, tests (certain c) (fitsI64 ps) c ps q)
 
 -- ---- parameters by their four components
 residual-shown : (R : Receptions) (params : List Float) (j : ℕ) → normalised R (four (nth params)) j ≡ normalised R params j

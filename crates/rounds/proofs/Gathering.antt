@@ -11,7 +11,7 @@ use Rattle.sets.proofs.Listed.{lists}
 use Rattle.problem.specs.Gathered.{pick}
 use Rattle.best.specs.OfProblem.{subset}
 use Rattle.rounds.specs.declared.fitting.Gathered.{Gathered}
-use Rattle.rounds.specs.Solve.{gathered}
+use Rattle.rounds.specs.Held.{gathered}
 
 pub few : (S : Subset) (n : ℕ) → n ≤ 32 → count S n ≤ 32
 few S n l = omega (arith, count-le S n)

@@ -10,13 +10,14 @@ use Rattle.sets.specs.Mask.{has, maskOf}
 use Rattle.sets.proofs.Masks.{count-within, mask-back}
 use Rattle.limits.specs.Limits.{dof, publishedChi2Limit}
 use Rattle.damped.specs.declared.Fit.{Fit}
-use Rattle.best.specs.Best.{Outcome, fails}
+use Rattle.best.specs.Best.{Outcome, refuses}
 use Rattle.best.specs.OfProblem.{Receptions, chosenOver}
 use Rattle.record.specs.declared.content.Fix.{Fix}
 use Rattle.rounds.specs.declared.finish.Unpublished.{Unpublished}
 use Rattle.rounds.specs.declared.finish.Unpublished.the-variants.{Inconsistent}
 use Rattle.rounds.specs.Finish.{finish}
-use Rattle.rounds.specs.Solve.{hasAltitude, limitAt, dofOf, tested, later, NormOf}
+use Rattle.rounds.specs.Solve.{hasAltitude, limitAt, dofOf, tested, later}
+use Rattle.rounds.specs.Held.{NormOf}
 
 module _ (R : Receptions) (reference : ℤ) (mask : ℕ) (M : mask < 2 ^ R .n) (N : R .n ≤ 32) (fit : Fit) (norm : Float)
     (B : NormOf R (has mask) fit norm) (d : ℕ) (D : d ≡ dof (count (has mask) 32) (hasAltitude (R .altitude)))
@@ -35,13 +36,13 @@ module _ (R : Receptions) (reference : ℤ) (mask : ℕ) (M : mask < 2 ^ R .n) (
   unfolding limitAt
   limited = L ∙ ap₂ publishedChi2Limit freedom (B .2)
 
-  judged : (t : Bool) → lt x (fit .cost) ≡ t → cond t (fails Inconsistent)
+  judged : (t : Bool) → lt x (fit .cost) ≡ t → cond t (refuses Inconsistent)
       (finish (maskOf (has mask) (R .n)) (dofOf R (has mask)) reference fit) ≡ settling
   judged t h =
-      ap (λ (b : Bool). cond b (fails Inconsistent) (finish (maskOf (has mask) (R .n)) (dofOf R (has mask)) reference fit))
+      ap (λ (b : Bool). cond b (refuses Inconsistent) (finish (maskOf (has mask) (R .n)) (dofOf R (has mask)) reference fit))
       (sym h ∙ ap (λ (y : Float). lt y (fit .cost)) limited) ∙ factored
 
-  pub late-inconsistent : lt x (fit .cost) ≡ true → fails Inconsistent ≡ settling
+  pub late-inconsistent : lt x (fit .cost) ≡ true → refuses Inconsistent ≡ settling
   late-inconsistent h = judged true h
 
   pub late-finish : lt x (fit .cost) ≡ false → finish mask d reference fit ≡ settling

@@ -10,14 +10,15 @@ use lib.Dec.{T, T-not, not-T, ltb, leb, ltb→lt, nltb→le}
 use lib.Ieee.{Float, lt, le}
 use borrow.Author.Tests.{le-leb, lt-leb}
 use Rattle.sets.specs.Sets.{Subset}
-use Rattle.sets.specs.Choice.{consider, choose, indexOf, IsChoice, Ranks}
+use Rattle.sets.specs.Choice.{consider, choose, IsChoice, Ranks}
+use Rattle.sets.specs.Held.{indexOf}
 use Rattle.sets.proofs.Tests.{either, T→eq, F→eq, and-l, and-r, and-both}
 use Rattle.sets.proofs.Choosing.{choose-is, choice-unique, chosen-some, chosen-none, chosen-below}
 use Rattle.best.proofs.Order.{le-of-not-lt, lt-of-not-le, le-lt}
 use Rattle.rounds.specs.declared.outliers.Choice.{Choice}
 use Rattle.rounds.specs.declared.outliers.Choices.{Choices}
 use Rattle.rounds.specs.Setting.{five}
-use Rattle.rounds.specs.Rounds.{above, greater, worst, near, less, least}
+use Rattle.rounds.specs.Rounds.{above, greater, worst, readmissible, less, least}
 use Rattle.rounds.specs.Looked.{held, lookedTo, chosenBy, LookFindsBoth}
 use Rattle.rounds.proofs.Choices.{five-number, ranks-greater, ranks-less}
 
@@ -124,7 +125,7 @@ module _ (K S : Subset) (z : ℕ → Float) (i : ℕ) (seen : Choices) (h : seen
   worst-stays u = worst-held ∙ held-stays (above S z) z (λ x y. lt y x) i (ap (λ (t : Bool). t && lt five (z i)) (sym u))
 
   least-stays : (K i && not (S i)) ≡ false → seen .least ≡ held z (least K S z (i + 1))
-  least-stays u = least-held ∙ held-stays (near K S z) z (λ x y. lt x y) i (ap (λ (t : Bool). t && le (z i) five) (sym u))
+  least-stays u = least-held ∙ held-stays (readmissible K S z) z (λ x y. lt x y) i (ap (λ (t : Bool). t && le (z i) five) (sym u))
 
   in-neither : (a : Bool) → (a && false) ≡ false
   in-neither true = refl
@@ -151,9 +152,9 @@ module _ (K S : Subset) (z : ℕ → Float) (i : ℕ) (seen : Choices) (h : seen
     -- a left-out one as the least
     pub look-left-out : S i ≡ false → K i ≡ true → (l : Choice) → l ≡ as-least x → both (seen .worst) l ≡ lookedTo K S z (i + 1)
     look-left-out u v l g =
-        let p : le (z i) five ≡ near K S z i = ap₂ (λ (a b : Bool). (a && not b) && le (z i) five) (sym v) (sym u) in
+        let p : le (z i) five ≡ readmissible K S z i = ap₂ (λ (a b : Bool). (a && not b) && le (z i) five) (sym v) (sym u) in
         ap₂ both (worst-stays u)
-        (g ∙ ap as-least e ∙ held-turn (near K S z) z (λ x y. lt x y) i s (seen .least) least-held (le (z i) five) p)
+        (g ∙ ap as-least e ∙ held-turn (readmissible K S z) z (λ x y. lt x y) i s (seen .least) least-held (le (z i) five) p)
 
 -- ---- the indices that the look hands over
 module _ (K S : Subset) (z : ℕ → Float) (n : ℕ) (s : n ≤ 32) (c : Choices) (e : c ≡ lookedTo K S z n) where
@@ -170,13 +171,13 @@ module _ (K S : Subset) (z : ℕ → Float) (n : ℕ) (s : n ≤ 32) (c : Choice
   worst-none l = chosen-none (above S z) (greater z) n (c .worst .at) s worst-index l
 
   pub least-some : c .least .at < 32 → least K S z n ≡ some (c .least .at)
-  least-some l = chosen-some (near K S z) (less z) n (c .least .at) s least-index l
+  least-some l = chosen-some (readmissible K S z) (less z) n (c .least .at) s least-index l
 
   pub least-none : 32 ≤ c .least .at → least K S z n ≡ none
-  least-none l = chosen-none (near K S z) (less z) n (c .least .at) s least-index l
+  least-none l = chosen-none (readmissible K S z) (less z) n (c .least .at) s least-index l
 
   pub least-below : c .least .at < 32 → c .least .at < n
-  least-below l = chosen-below (near K S z) (less z) n (c .least .at) s least-index l
+  least-below l = chosen-below (readmissible K S z) (less z) n (c .least .at) s least-index l
 
 -- ---- what both are
 
@@ -191,12 +192,12 @@ module _ (K S : Subset) (z : ℕ → Float) where
   worst-no : (j : ℕ) → (T (S j) → T (le (z j) five)) → T (not (above S z j))
   worst-no j h = not-T (above S z j) (λ t. le-lt five (z j) (h (and-l (S j) (lt five (z j)) t)) (and-r (S j) (lt five (z j)) t))
 
-  no-least : (j : ℕ) → T (K j) → T (not (S j)) → T (not (near K S z j)) → T (not (le (z j) five))
+  no-least : (j : ℕ) → T (K j) → T (not (S j)) → T (not (readmissible K S z j)) → T (not (le (z j) five))
   no-least j t o h =
-      not-T (le (z j) five) (λ u. T-not (near K S z j) h (and-both (K j && not (S j)) (le (z j) five) (and-both (K j) (not (S j)) t o) u))
+      not-T (le (z j) five) (λ u. T-not (readmissible K S z j) h (and-both (K j && not (S j)) (le (z j) five) (and-both (K j) (not (S j)) t o) u))
 
-  least-no : (j : ℕ) → (T (K j) → T (not (S j)) → T (lt five (z j))) → T (not (near K S z j))
-  least-no j h = not-T (near K S z j) (λ t.
+  least-no : (j : ℕ) → (T (K j) → T (not (S j)) → T (lt five (z j))) → T (not (readmissible K S z j))
+  least-no j h = not-T (readmissible K S z j) (λ t.
       let o = and-l (K j && not (S j)) (le (z j) five) t in
       le-lt five (z j) (and-r (K j && not (S j)) (le (z j) five) t) (h (and-l (K j) (not (S j)) o) (and-r (K j) (not (S j)) o)))
 
@@ -209,13 +210,13 @@ look-finds-both K S z W N k s = record {
     λ a. none-exactly (above S z) (greater z) k _ w .1 (λ j h. worst-no K S z j (a j h)),
   );
   noLeast = (
-    (λ e j h t o. lt-of-not-le five (z j) five-number (N j t) (no-least K S z j t o (none-exactly (near K S z) (less z) k _ l .0 e j h))),
-    λ a. none-exactly (near K S z) (less z) k _ l .1 (λ j h. least-no K S z j (a j h)),
+    (λ e j h t o. lt-of-not-le five (z j) five-number (N j t) (no-least K S z j t o (none-exactly (readmissible K S z) (less z) k _ l .0 e j h))),
+    λ a. none-exactly (readmissible K S z) (less z) k _ l .1 (λ j h. least-no K S z j (a j h)),
   );
 }
   where
     w : IsChoice (above S z) (greater z) k (chosenBy (held z (worst S z k)))
     w = held-choice (above S z) z (λ x y. lt y x) k s (ranks-greater S z)
 
-    l : IsChoice (near K S z) (less z) k (chosenBy (held z (least K S z k)))
-    l = held-choice (near K S z) z (λ x y. lt x y) k s (ranks-less K S z)
+    l : IsChoice (readmissible K S z) (less z) k (chosenBy (held z (least K S z k)))
+    l = held-choice (readmissible K S z) z (λ x y. lt x y) k s (ranks-less K S z)

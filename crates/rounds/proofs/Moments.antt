@@ -18,7 +18,8 @@ use Rattle.binary64.specs.Rounding.{halfAway}
 use Rattle.binary64.proofs.Patterns.{is-nan}
 use Rattle.geo.proofs.Constants.{light}
 use Rattle.rounds.specs.declared.moment.Moment.{Moment}
-use Rattle.rounds.specs.Finish.{held, beyond, momentOf, transmitPs}
+use Rattle.rounds.specs.Finish.{fitsI64, transmitPs}
+use Rattle.rounds.specs.Held.{beyond, momentOf}
 use Rattle.rounds.proofs.Certainty.{second}
 
 -- ---- places
@@ -50,7 +51,7 @@ at-place (negsuc a) p e = go (ltb (2 ^ 63) (suc a)) (ltb-true (2 ^ 63) (suc a)) 
     go true h k q = absurd (let z : _≡_ {A = ℕ} 0 1 = cc in omega arith)
     go false h k q = let r : 2 ^ 63 - suc a ≡ p = ap natAbs q in let s = k refl in rw (lt-ltb p (2 ^ 63) (omega arith)) (ap negsuc (omega arith))
 
-held-place : (z : ℤ) (p : ℕ) → z +ℤ pos (2 ^ 63) ≡ pos p → held z ≡ ltb p (2 ^ 64)
+held-place : (z : ℤ) (p : ℕ) → z +ℤ pos (2 ^ 63) ≡ pos p → fitsI64 z ≡ ltb p (2 ^ 64)
 held-place (pos a) p e = let q : a + 2 ^ 63 ≡ p = ap natAbs e in go (ltb p (2 ^ 64)) (ltb-true p (2 ^ 64)) (ltb-false p (2 ^ 64)) q
   where
     go : (t : Bool) → (t ≡ true → p < 2 ^ 64) → (t ≡ false → 2 ^ 64 ≤ p) → a + 2 ^ 63 ≡ p → ltb a (2 ^ 63) ≡ t
@@ -64,7 +65,7 @@ held-place (negsuc a) p e = go (ltb (2 ^ 63) (suc a)) (ltb-true (2 ^ 63) (suc a)
     go false h k q = let r : 2 ^ 63 - suc a ≡ p = ap natAbs q in let s = k refl in
         lt-ltb a (2 ^ 63) (omega arith) ∙ sym (lt-ltb p (2 ^ 64) (omega arith))
 
-held-below : (z : ℤ) (q : ℕ) → z +ℤ pos (2 ^ 63) ≡ negsuc q → held z ≡ false
+held-below : (z : ℤ) (q : ℕ) → z +ℤ pos (2 ^ 63) ≡ negsuc q → fitsI64 z ≡ false
 held-below (pos a) q e = absurd (let z : _≡_ {A = ℕ} 0 1 = cc in omega arith)
 held-below (negsuc a) q e = go (ltb (2 ^ 63) (suc a)) (ltb-true (2 ^ 63) (suc a)) e
   where
@@ -204,17 +205,17 @@ cast-low (fin true m e) n h k =
 cast-low (fin false m e) n h k = absurd (omega (arith, down-pos e, ltb-false 0 (1 * down e + m * up e * 1) h))
 
 -- ---- a moment as the code holds it
-pub moment-held : (z : ℤ) (r : Moment) → r ≡ momentOf z → r .held ≡ true → (held z ≡ true) × (r .ps ≡ z)
-moment-held z r e h = go (held z) refl
+pub moment-held : (z : ℤ) (r : Moment) → r ≡ momentOf z → r .held ≡ true → (fitsI64 z ≡ true) × (r .ps ≡ z)
+moment-held z r e h = go (fitsI64 z) refl
   where
-    go : (b : Bool) → held z ≡ b → (held z ≡ true) × (r .ps ≡ z)
+    go : (b : Bool) → fitsI64 z ≡ b → (fitsI64 z ≡ true) × (r .ps ≡ z)
     go true f = (f, ap (λ (m : Moment). m .ps) (e ∙ ap (λ (t : Bool). cond t (record { held = true; ps = z }) beyond) f))
     go false f = absurd (true≢false (sym h ∙ ap (λ (m : Moment). m .held) (e ∙ ap (λ (t : Bool). cond t (record { held = true; ps = z }) beyond) f)))
 
-pub moment-beyond : (z : ℤ) (r : Moment) → r ≡ momentOf z → r .held ≡ false → held z ≡ false
-moment-beyond z r e h = go (held z) refl
+pub moment-beyond : (z : ℤ) (r : Moment) → r ≡ momentOf z → r .held ≡ false → fitsI64 z ≡ false
+moment-beyond z r e h = go (fitsI64 z) refl
   where
-    go : (b : Bool) → held z ≡ b → held z ≡ false
+    go : (b : Bool) → fitsI64 z ≡ b → fitsI64 z ≡ false
     go false f = f
     go true f = absurd (false≢true (sym h ∙ ap (λ (m : Moment). m .held) (e ∙ ap (λ (t : Bool). cond t (record { held = true; ps = z }) beyond) f)))
 
@@ -237,7 +238,7 @@ unfolding transmitPs
 by-cast x z t r m R e h = h ∙ ap (λ (y : ℤ). momentOf (x +ℤ y))
     (sym e ∙ ap (toSigned 127) (R ∙ ap₂ (λ (c s : Float). halfAway (t ⊘ c ⊗ s)) (sym light) (sym second)))
 
-pub held-fits : (z : ℤ) → held z ≡ true → SFits w64 z
+pub held-fits : (z : ℤ) → fitsI64 z ≡ true → SFits w64 z
 held-fits (pos n) h = record { sfits = ltb-true n (2 ^ 63) h }
 held-fits (negsuc n) h = record { sfits = ltb-true n (2 ^ 63) h }
 

@@ -9,19 +9,20 @@ use lib.Ieee.{Float}
 use Rattle.sets.specs.Sets.{Subset, count}
 use Rattle.linalg.specs.Methods.{zeros}
 use Rattle.whitening.specs.Covariance.{whitener}
-use Rattle.whitening.specs.Whitened.{Chosen, chosen}
+use Rattle.whitening.specs.Whitened.{Chosen}
+use Rattle.whitening.specs.Held.{chosen}
 use Rattle.damped.specs.declared.Fit.{Fit}
 use Rattle.starts.specs.declared.Points.{Points}
-use Rattle.starts.specs.Points.{empty, packed}
+use Rattle.starts.specs.Held.{empty, packed}
 use Rattle.starts.specs.Starts.{startsAfter}
 use Rattle.starts.proofs.Count.{starts-count, starts-most}
 use Rattle.best.specs.declared.Unfit.{Unfit}
-use Rattle.best.specs.Best.{Outcome, bestFit, pointsTo}
-use Rattle.best.specs.Held.{arrayOf, asBestAt}
+use Rattle.best.specs.Best.{Outcome}
+use Rattle.best.specs.Held.{arrayOf, asBestAt, bestFit, pointsTo}
 use Rattle.best.specs.OfProblem.{Receptions, subsetSites, subsetZ, startsOver, bestFitOver}
 use Rattle.best.proofs.Listing.{points-back}
 use Rattle.rounds.specs.declared.fitting.Gathered.{Gathered}
-use Rattle.rounds.specs.Solve.{gathered, heldOver}
+use Rattle.rounds.specs.Held.{gathered, heldOver}
 
 module _ (R : Receptions) (S : Subset) (had : Bool) (previous : List Float) where
   starts-are : (t : Bool) → startsAfter t previous (subsetSites (R .site) (R .n) S) (subsetZ (R .z) (R .n) S) (count S (R .n)) (R .altitude)

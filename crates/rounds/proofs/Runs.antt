@@ -21,8 +21,9 @@ use Rattle.rounds.specs.declared.fitting.State.{State}
 use Rattle.rounds.specs.declared.outliers.Turn.{Turn}
 use Rattle.rounds.specs.declared.outliers.Turn.the-variants.{Ends, Changes, Settles}
 use Rattle.rounds.specs.Setting.{refused, noFixedPoint, Setting, kept, survivors}
-use Rattle.rounds.specs.Rounds.{Step, ends, changes, settles, closed, round, after, roundsTo, solved}
-use Rattle.rounds.specs.Solve.{keptAt, settingOf, solveProblem, before, stepOf}
+use Rattle.rounds.specs.Rounds.{Step, ends, changes, settles, closed, round, answerAfter, roundsTo, outlierRounds}
+use Rattle.rounds.specs.Solve.{keptAt, settingOf, solveProblem}
+use Rattle.rounds.specs.Held.{previousOf, stepOf}
 use Rattle.rounds.proofs.Choices.{Within}
 use Rattle.rounds.proofs.Steps.{Says, round-says}
 use Rattle.rounds.proofs.Chains.{change-within}
@@ -33,10 +34,10 @@ module _ (R : Receptions) (mask : ℕ) (reference : ℤ) (N : R .n ≤ 32) where
 
   -- what is left after the rounds so far: the included receptions are kept ones, and so many rounds more give the answer
   pub record Left (j : ℕ) (s : State) : Type 0 where
-    pub answers : solved P ≡ roundsTo P j (has (s .included)) (before s)
+    pub answers : outlierRounds P ≡ roundsTo P j (has (s .included)) (previousOf s)
     pub keeps : Within P (has (s .included))
 
-  left : (j : ℕ) (S : Subset) (p : Option (List Float)) (s : State) → has (s .included) ≡ S → before s ≡ p → solved P ≡ roundsTo P j S p
+  left : (j : ℕ) (S : Subset) (p : Option (List Float)) (s : State) → has (s .included) ≡ S → previousOf s ≡ p → outlierRounds P ≡ roundsTo P j S p
       → Within P S → Left j s
   left j S p s e q a w = record {
     answers = a ∙ ap₂ (λ (A : Subset) (o : Option (List Float)). roundsTo P j A o) (sym e) (sym q);
@@ -45,46 +46,46 @@ module _ (R : Receptions) (mask : ℕ) (reference : ℤ) (N : R .n ≤ 32) where
 
   pub left-start : (s : State) (c : ℕ) → s ≡ record { included = mask; had = false; previous = replicate 4 nought } → mask < 2 ^ R .n → c
       ≡ count (has mask) 32 → Left (2 * c + 2 - 0) s
-  unfolding solved
+  unfolding outlierRounds
   left-start s c i m h =
       let t : count (kept P) (R .n) ≡ c = sym (count-within (R .n) mask m N) ∙ sym h in
       let d : 2 * survivors P + 2 ≡ 2 * c + 2 - 0 = omega (arith, t) in
-      left (2 * c + 2 - 0) (kept P) none s (ap (λ (x : State). has (x .included)) i) (ap before i)
+      left (2 * c + 2 - 0) (kept P) none s (ap (λ (x : State). has (x .included)) i) (ap previousOf i)
       (ap (λ (j : ℕ). roundsTo P j (kept P) none) d) (λ j t. t)
 
   -- ---- one round more
-  module _ (k cap : ℕ) (s : State) (t : Turn) (f : Fit) (E : stepOf t f ≡ round P (has (s .included)) (before s)) (K : k < cap)
+  module _ (k cap : ℕ) (s : State) (t : Turn) (f : Fit) (E : stepOf t f ≡ round P (has (s .included)) (previousOf s)) (K : k < cap)
       (I : Left (cap - k) s) where
-    next : (x : Step Fit) → x ≡ round P (has (s .included)) (before s) → solved P
-        ≡ after P (λ S q. roundsTo P (cap - (k + 1)) S q) (has (s .included)) x
+    next : (x : Step Fit) → x ≡ round P (has (s .included)) (previousOf s) → outlierRounds P
+        ≡ answerAfter P (λ S q. roundsTo P (cap - (k + 1)) S q) (has (s .included)) x
     unfolding roundsTo
     next x e =
-        I .answers ∙ ap (λ (j : ℕ). roundsTo P j (has (s .included)) (before s)) (let d : cap - k ≡ suc (cap - (k + 1)) = omega arith in d)
-        ∙ ap (after P (λ S q. roundsTo P (cap - (k + 1)) S q) (has (s .included))) (sym e)
+        I .answers ∙ ap (λ (j : ℕ). roundsTo P j (has (s .included)) (previousOf s)) (let d : cap - k ≡ suc (cap - (k + 1)) = omega arith in d)
+        ∙ ap (answerAfter P (λ S q. roundsTo P (cap - (k + 1)) S q) (has (s .included))) (sym e)
 
-    told-by : (u : Turn) → t ≡ u → stepOf u f ≡ round P (has (s .included)) (before s)
+    told-by : (u : Turn) → t ≡ u → stepOf u f ≡ round P (has (s .included)) (previousOf s)
     told-by u e = ap (λ (x : Turn). stepOf x f) (sym e) ∙ E
 
-    pub left-ends : (why : Refusal) → t ≡ Ends why → refused why ≡ solved P
+    pub left-ends : (why : Refusal) → t ≡ Ends why → refused why ≡ outlierRounds P
     left-ends why e = sym (next (ends why) (told-by (Ends why) e))
 
-    pub left-settles : t ≡ Settles → closed (P .later (has (s .included)) f) ≡ solved P
+    pub left-settles : t ≡ Settles → closed (P .later (has (s .included)) f) ≡ outlierRounds P
     left-settles e = sym (next (settles f) (told-by Settles e))
 
     pub left-changes : (m : ℕ) → t ≡ Changes m → (u : State) → u ≡ record { included = m; had = true; previous = f .params } → Left (cap - (k + 1)) u
     left-changes m e u i =
         let step = told-by (Changes m) e in
-        left (cap - (k + 1)) (has m) (some (f .params)) u (ap (λ (x : State). has (x .included)) i) (ap before i) (next (changes (has m) f) step)
-        (change-within P (subst (Says P (has (s .included)) (before s)) (sym step)
-        (round-says P (has (s .included)) (before s) (I .keeps))) (I .keeps))
+        left (cap - (k + 1)) (has m) (some (f .params)) u (ap (λ (x : State). has (x .included)) i) (ap previousOf i) (next (changes (has m) f) step)
+        (change-within P (subst (Says P (has (s .included)) (previousOf s)) (sym step)
+        (round-says P (has (s .included)) (previousOf s) (I .keeps))) (I .keeps))
 
-  pub left-never : (k cap : ℕ) (s : State) → cap ≤ k → Left (cap - k) s → noFixedPoint ≡ solved P
+  pub left-never : (k cap : ℕ) (s : State) → cap ≤ k → Left (cap - k) s → noFixedPoint ≡ outlierRounds P
   unfolding roundsTo
-  left-never k cap s l i = sym (i .answers ∙ ap (λ (j : ℕ). roundsTo P j (has (s .included)) (before s)) (let d : cap - k ≡ 0 = omega arith in d))
+  left-never k cap s l i = sym (i .answers ∙ ap (λ (j : ℕ). roundsTo P j (has (s .included)) (previousOf s)) (let d : cap - k ≡ 0 = omega arith in d))
 
 -- the problem's setting, by what is kept and its reference
 pub of-problem
     : (P : Problem) (kept : Subset) (reference : ℤ) → kept ≡ keptAt (P .time) (P .«site_mm») (P .n) → reference ≡ P .«reference_ps»
-    → solved (settingOf (receptionsOf P) kept reference) ≡ solveProblem P
+    → outlierRounds (settingOf (receptionsOf P) kept reference) ≡ solveProblem P
 unfolding solveProblem
-of-problem P kept reference k e = ap₂ (λ (K : Subset) (r : ℤ). solved (settingOf (receptionsOf P) K r)) k e
+of-problem P kept reference k e = ap₂ (λ (K : Subset) (r : ℤ). outlierRounds (settingOf (receptionsOf P) K r)) k e

@@ -14,7 +14,7 @@ use Rattle.sets.proofs.Tests.{T→eq, eq→T, and-l, same-T}
 use Rattle.sets.proofs.Counting.{count-same, count-pos}
 use Rattle.best.proofs.Cheapest.{same-choice}
 use Rattle.rounds.specs.Setting.{five}
-use Rattle.rounds.specs.Rounds.{above, greater, worst, near, less, least, noNumber, unnumbered, turned, decided}
+use Rattle.rounds.specs.Rounds.{above, greater, worst, readmissible, less, least, noNumber, unnumbered, turned, decided}
 
 -- ---- a residual that is not a number
 pub ne-nan : (x : Float) → ne x x ≡ isNan x
@@ -55,10 +55,10 @@ decided-same K S z y n f e =
     (same-choice (above S z) (above S y) (greater z) (greater y) n
     (λ j l. and-same (S j) (lt five (z j)) (lt five (y j)) (λ t. ap (lt five) (e j l (inr t))))
     (λ i j l m s t. ap₂ lt (e j m (inr (and-l (S j) (lt five (z j)) t))) (e i l (inr (and-l (S i) (lt five (z i)) s)))))
-    (same-choice (near K S z) (near K S y) (less z) (less y) n
+    (same-choice (readmissible K S z) (readmissible K S y) (less z) (less y) n
     (λ j l. and-same (K j && not (S j)) (le (z j) five) (le (y j) five)
     (λ t. ap (λ (x : Float). le x five) (e j l (inl (and-l (K j) (not (S j)) t)))))
     (λ i j l m s t. ap₂ lt (e i l (out i s)) (e j m (out j t))))
   where
-    out : (j : ℕ) → T (near K S z j) → T (K j) ⊎ T (S j)
+    out : (j : ℕ) → T (readmissible K S z j) → T (K j) ⊎ T (S j)
     out j t = inl (and-l (K j) (not (S j)) (and-l (K j && not (S j)) (le (z j) five) t))

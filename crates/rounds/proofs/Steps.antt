@@ -13,9 +13,10 @@ use Rattle.sets.proofs.Belonging.{subset-ext, in-without, in-joined}
 use Rattle.sets.proofs.Counting.{count-some, count-pos}
 use Rattle.sets.proofs.Choosing.{choice-unique}
 use Rattle.best.specs.declared.Unfit.{Unfit}
-use Rattle.best.specs.Best.{Outcome, fails, gives}
+use Rattle.best.specs.Best.{Outcome, refuses, gives}
 use Rattle.rounds.specs.Setting.{Setting, kept}
-use Rattle.rounds.specs.Rounds.{Step, ends, changes, settles, above, greater, worst, near, less, least, noNumber, turned, decided, begun, round}
+use Rattle.rounds.specs.Rounds.{Step, ends, changes, settles, above, greater, worst, readmissible, less, least, noNumber, turned, decided}
+use Rattle.rounds.specs.Rounds.{begun, round}
 use Rattle.rounds.specs.Rounds as rounds
 use Rattle.rounds.specs.Demand.{Fitted, Change, removal, return, Settled, Ends, few, unfit, unnumbered}
 use Rattle.rounds.proofs.Choices.{Within, Numbers, IsWorst, IsLeast, worst-is, least-is, worst-none, none-worst, worst-some, some-worst}
@@ -69,7 +70,7 @@ module _ {Q F X : Type 0} (P : Setting Q F X) where
     begun-says : (b : Bool) → ltb (count S (P .n)) (P .minimum) ≡ b → (o : Outcome Unfit F) → P .bestFit S p ≡ o → Says S p (begun P S b o)
     unfolding decided
     begun-says true b o e = few (ltb→lt (count S (P .n)) (P .minimum) (eq→T b))
-    begun-says false b (fails x) e = unfit x (nltb→le (count S (P .n)) (P .minimum) (eq→F b)) e
+    begun-says false b (refuses x) e = unfit x (nltb→le (count S (P .n)) (P .minimum) (eq→F b)) e
     begun-says false b (gives f) e = turned-says f (nltb→le (count S (P .n)) (P .minimum) (eq→F b)) e (lacks f) refl (worst S (P .residual f) (P .n))
         (worst-is P S f) (least (kept P) S (P .residual f) (P .n)) (least-is P S f)
 
@@ -98,7 +99,8 @@ module _ {Q F X : Type 0} (P : Setting Q F X) where
       one-worst f o h = choice-unique (above S (P .residual f)) (greater (P .residual f)) (P .n) (worst S (P .residual f) (P .n)) o (worst-is P S f) h
 
       one-least : (f : F) (o : Option ℕ) → IsLeast P S f o → least (kept P) S (P .residual f) (P .n) ≡ o
-      one-least f o h = choice-unique (near (kept P) S (P .residual f)) (less (P .residual f)) (P .n) (least (kept P) S (P .residual f) (P .n)) o
+      one-least f o h = choice-unique (readmissible (kept P) S (P .residual f)) (less (P .residual f)) (P .n)
+          (least (kept P) S (P .residual f) (P .n)) o
           (least-is P S f) h
 
       fitted-turned : (f : F) → Fitted P S p f → (w l : Option ℕ) → IsWorst P S f w → least (kept P) S (P .residual f) (P .n) ≡ l → round P S p
@@ -110,7 +112,7 @@ module _ {Q F X : Type 0} (P : Setting Q F X) where
       says-round (ends e) (few h) =
           ap (λ (b : Bool). begun P S b (P .bestFit S p))
           (T→eq (ltb (count S (P .n)) (P .minimum)) (lt→ltb (count S (P .n)) (P .minimum) h))
-      says-round (ends e) (unfit u m h) = begun-enough (fails u) m h
+      says-round (ends e) (unfit u m h) = begun-enough (refuses u) m h
       says-round (ends e) (unnumbered f j m h l k t) = begun-turned f m h true (T→eq (lacks f) (some-lacks f j l k t)) _ _ refl refl
       says-round (changes R f) (removal i h w g) =
           fitted-turned f h (some i) (least (kept P) S (P .residual f) (P .n)) (some-worst P S f W (h .numbers) i w) refl

@@ -20,8 +20,8 @@ use Rattle.damped.specs.declared.Fit.{Fit}
 use Rattle.best.specs.declared.Unfit.{Unfit}
 use Rattle.best.specs.declared.Best.{Best}
 use Rattle.best.specs.declared.BestAt.{BestAt}
-use Rattle.best.specs.Best.{Outcome, fails, gives, asBest}
-use Rattle.best.specs.Held.{normAt, arrayOf, asBestAt}
+use Rattle.best.specs.Best.{Outcome, refuses, gives}
+use Rattle.best.specs.Held.{normAt, arrayOf, asBestAt, asBest}
 use Rattle.best.specs.OfProblem.{Receptions, whitenerOver, chosenOver, bestFitOver}
 use Rattle.best.proofs.Over.{answered-over}
 use Rattle.record.specs.declared.content.Fix.{Fix}
@@ -29,21 +29,22 @@ use Rattle.rounds.specs.declared.answer.Refusal.the-variants.{TooFew}
 use Rattle.rounds.specs.declared.outliers.Turn.{Turn}
 use Rattle.rounds.specs.Setting.{ofUnfit, Setting, kept}
 use Rattle.rounds.specs.Rounds.{ends, decided, begun, round}
-use Rattle.rounds.specs.Solve.{normalised, settingOf, heldOver, NormOf, stepOf}
+use Rattle.rounds.specs.Solve.{normalised, settingOf}
+use Rattle.rounds.specs.Held.{stepOf, heldOver, NormOf}
 use Rattle.rounds.proofs.Searches.{decided-same}
 
 -- the best fit, or why there is none, read back from what the code holds of it
 abbrev told : Best → Outcome Unfit Fit
-told b = cond (b .found) (gives (b .fit)) (fails (b .why))
+told b = cond (b .found) (gives (b .fit)) (refuses (b .why))
 
 told-as : (o : Outcome Unfit Fit) → told (asBest o) ≡ o
-told-as (fails e) = refl
+told-as (refuses e) = refl
 told-as (gives f) = refl
 
 -- beside a fit that is found stands its place
 pub best-place : (C : Chosen) (o : Outcome Unfit Fit) (b : BestAt) → b ≡ asBestAt C o → b .best .found ≡ true
     → b .place ≡ fromEcef (position (b .best .fit .params))
-best-place C (fails e) b h t = absurd (subst T (sym t ∙ ap (λ (x : BestAt). x .best .found) h) tt)
+best-place C (refuses e) b h t = absurd (subst T (sym t ∙ ap (λ (x : BestAt). x .best .found) h) tt)
 best-place C (gives f) b h t = ap (λ (x : BestAt). x .place) h ∙ ap (λ (x : BestAt). fromEcef (position (x .best .fit .params))) (sym h)
 
 -- and its rounding norm, by the factor that the round's whitener found
@@ -55,7 +56,7 @@ best-norm R S p n b h t = go (bestFitOver R S p) refl
     over o = asBestAt (chosenOver R S (arrayOf (whitenerOver R S))) o
 
     go : (o : Outcome Unfit Fit) → bestFitOver R S p ≡ o → NormOf R S (b .best .fit) (b .norm)
-    go (fails e) q = absurd (subst T (sym t ∙ ap (λ (x : BestAt). x .best .found) (h ∙ ap over q)) tt)
+    go (refuses e) q = absurd (subst T (sym t ∙ ap (λ (x : BestAt). x .best .found) (h ∙ ap over q)) tt)
     go (gives f) q =
         let w = answered-over R S p .found n f .0 q in
         let same : b ≡ over (gives f) = h ∙ ap over q in (
@@ -87,11 +88,11 @@ module _ (R : Receptions) (K : ℕ) (reference : ℤ) (N : R .n ≤ 32) (mask : 
       (le-ltb (count (has mask) (R .n)) (minimum (R .altitude)) (subst (λ (k : ℕ). minimum (R .altitude) ≤ k) counted h)) (sym e))
 
   module _ (h : minimum (R .altitude) ≤ c) (b : Best) (B : b ≡ asBest (bestFitOver R (has mask) p)) where
-    met : (t : Bool) → b .found ≡ t → cond t (gives (b .fit)) (fails (b .why)) ≡ P .bestFit (has mask) p
-    met t e = ap (λ (x : Bool). cond x (gives (b .fit)) (fails (b .why))) (sym e) ∙ ap told B ∙ told-as (bestFitOver R (has mask) p)
+    met : (t : Bool) → b .found ≡ t → cond t (gives (b .fit)) (refuses (b .why)) ≡ P .bestFit (has mask) p
+    met t e = ap (λ (x : Bool). cond x (gives (b .fit)) (refuses (b .why))) (sym e) ∙ ap told B ∙ told-as (bestFitOver R (has mask) p)
 
     pub round-unfit : b .found ≡ false → ends (ofUnfit (b .why)) ≡ round P (has mask) p
-    round-unfit e = enough h (fails (b .why)) (met false e)
+    round-unfit e = enough h (refuses (b .why)) (met false e)
 
     pub round-fitted : b .found ≡ true → (z : List Float) → ((j : ℕ) → j < R .n → nth z j ≡ normalised R (b .fit .params) j)
         → (t : Turn) → stepOf t (b .fit) ≡ decided (has K) (has mask) (nth z) (R .n) (b .fit) → stepOf t (b .fit) ≡ round P (has mask) p

@@ -18,19 +18,21 @@ use Rattle.sets.specs.Sets.{Subset, count}
 use Rattle.sets.specs.Mask.{maskOf}
 use Rattle.problem.specs.declared.Altitude.{Altitude}
 use Rattle.problem.specs.declared.Problem.{Problem}
-use Rattle.problem.specs.Problem.{moment}
+use Rattle.problem.specs.Problem.{transmitM}
 use Rattle.whitening.specs.Covariance.{sigma}
-use Rattle.whitening.specs.Whitened.{chosen, rangeAt, residual}
+use Rattle.whitening.specs.Whitened.{rangeAt, residual}
+use Rattle.whitening.specs.Held.{chosen}
 use Rattle.damped.specs.declared.Fit.{Fit}
 use Rattle.starts.specs.Starts.{startsAfter}
 use Rattle.best.specs.declared.Unfit.{Unfit}
-use Rattle.best.specs.Best.{Outcome, fails, gives, best, whitened}
-use Rattle.best.specs.OfProblem.{Receptions, receptions, subsetSites, subsetZ, whitenerOver, bestFitOver}
+use Rattle.best.specs.Best.{Outcome, refuses, gives, best, withWhitener}
+use Rattle.best.specs.OfProblem.{Receptions, subsetSites, subsetZ, whitenerOver, bestFitOver}
+use Rattle.best.specs.Held.{receptions}
 use Rattle.record.specs.declared.content.Fix.{Fix}
 use Rattle.rounds.specs.declared.finish.Unpublished.{Unpublished}
 use Rattle.rounds.specs.declared.finish.Unpublished.the-variants as unpublished
 use Rattle.rounds.specs.Setting.{Answer, Setting, kept, survivors}
-use Rattle.rounds.specs.Rounds.{Step, ends, changes, settles, closed, begun, round, after, roundsTo, solved}
+use Rattle.rounds.specs.Rounds.{Step, ends, changes, settles, closed, begun, round, answerAfter, roundsTo, outlierRounds}
 use Rattle.rounds.specs.Finish.{finish}
 use Rattle.rounds.specs.Solve.{limitAt, normalised, dofOf, tested, later, keptAt, settingOf, solveProblem}
 use Rattle.rounds.specs.Unmoved.{RemovedUnread}
@@ -53,7 +55,7 @@ module _ {Q F X : Type 0} (n : ℕ) (K : Subset) (least : ℕ) (params : F → Q
       (L : (S : Subset) (f : F) → Within one S → l S f ≡ l′ S f) where
     begun-same : (S : Subset) → Within one S → (t : Bool) (o : Outcome Unfit F) → begun one S t o ≡ begun other S t o
     begun-same S W true o = refl
-    begun-same S W false (fails e) = refl
+    begun-same S W false (refuses e) = refl
     begun-same S W false (gives f) = decided-same K S (r f) (r′ f) n f (λ j h s. R f j (in-kept j s))
       where
         in-kept : (j : ℕ) → T (K j) ⊎ T (S j) → T (K j)
@@ -68,16 +70,17 @@ module _ {Q F X : Type 0} (n : ℕ) (K : Subset) (least : ℕ) (params : F → Q
     unfolding roundsTo
     rounds-same zero S p W = refl
     rounds-same (suc m) S p W =
-        go (round one S p) (round-says one S p W) (λ Z q v. rounds-same m Z q v) ∙ ap (after other (λ Z q. roundsTo other m Z q) S) (round-same S p W)
+        go (round one S p) (round-says one S p W) (λ Z q v. rounds-same m Z q v) ∙ ap (answerAfter other (λ Z q. roundsTo other m Z q) S)
+        (round-same S p W)
       where
         go : (x : Step F) → Says one S p x → ((Z : Subset) (q : Option Q) → Within one Z → roundsTo one m Z q ≡ roundsTo other m Z q)
-            → after one (λ Z q. roundsTo one m Z q) S x ≡ after other (λ Z q. roundsTo other m Z q) S x
+            → answerAfter one (λ Z q. roundsTo one m Z q) S x ≡ answerAfter other (λ Z q. roundsTo other m Z q) S x
         go (ends e) h rec = refl
         go (changes Z f) h rec = rec Z (some (params f)) (change-within one h W)
         go (settles f) h rec = ap closed (L S f W)
 
-    solved-same : solved one ≡ solved other
-    unfolding solved
+    solved-same : outlierRounds one ≡ outlierRounds other
+    unfolding outlierRounds
     solved-same = rounds-same (2 * survivors one + 2) (kept one) none (all-kept one)
 
 -- ---- two problems that differ in z, noise and clock entries alone
@@ -101,7 +104,7 @@ module _ (site : List Float) (z y x w c d : List Float) (n : ℕ) (N : n ≤ 32)
       factors = factor-same K S W n N c d x w C X
 
       abbrev fitted : Bool → List Float → Factor → List Float → Outcome Unfit Fit
-      fitted had p f t = whitened f (λ l. best (chosen (count S n) sites t l altitude) (startsAfter had p sites t (count S n) altitude))
+      fitted had p f t = withWhitener f (λ l. best (chosen (count S n) sites t l altitude) (startsAfter had p sites t (count S n) altitude))
 
       best-same : (p : Option (List Float)) → bestFitOver A S p ≡ bestFitOver B S p
       unfolding bestFitOver
@@ -112,7 +115,7 @@ module _ (site : List Float) (z y x w c d : List Float) (n : ℕ) (N : n ≤ 32)
       tested-same fit (refused l) = refl
       tested-same fit (found l) =
           ap (λ (t : List Float). cond (lt (limitAt (chosen (count S n) sites t l altitude) (dofOf A S) (fit .params)) (fit .cost))
-          (fails unpublished.Inconsistent) (finish (maskOf S n) (dofOf A S) reference fit)) times
+          (refuses unpublished.Inconsistent) (finish (maskOf S n) (dofOf A S) reference fit)) times
 
       later-same : (fit : Fit) → later A reference S fit ≡ later B reference S fit
       unfolding later
@@ -120,9 +123,9 @@ module _ (site : List Float) (z y x w c d : List Float) (n : ℕ) (N : n ≤ 32)
 
     residual-same : (p : List Float) (i : ℕ) → T (K i) → normalised A p i ≡ normalised B p i
     unfolding normalised residual sigma
-    residual-same p i t = ap₂ (λ (v s : Float). abs (v ⊖ moment p ⊖ rangeAt site p i) ⊘ root s) (Z i t) (ap₂ _⊕_ (C i i (omega arith) t t) (X i t))
+    residual-same p i t = ap₂ (λ (v s : Float). abs (v ⊖ transmitM p ⊖ rangeAt site p i) ⊘ root s) (Z i t) (ap₂ _⊕_ (C i i (omega arith) t t) (X i t))
 
-    pub unread : solved (settingOf A K reference) ≡ solved (settingOf B K reference)
+    pub unread : outlierRounds (settingOf A K reference) ≡ outlierRounds (settingOf B K reference)
     unread = solved-same n K (settingOf A K reference .minimum) (λ fit. fit .params) (λ S p. bestFitOver A S p) (λ S p. bestFitOver B S p)
         (λ fit i. normalised A (fit .params) i) (λ fit i. normalised B (fit .params) i)
         (λ S fit. later A reference S fit) (λ S fit. later B reference S fit)
@@ -132,7 +135,7 @@ module _ (site : List Float) (z y x w c d : List Float) (n : ℕ) (N : n ≤ 32)
 -- the answer by z, noise and clock entries of Q, and the rest as given
 abbrev solvedAs : Problem → ℕ → List ℤ → List ℤ → List Float → Altitude → ℤ → Answer Fix
 solvedAs Q n time mm site altitude reference =
-    solved (settingOf (receptions site (Q .z) (Q .«noise_m2») (Q .«clock_m2») n altitude) (keptAt time mm n) reference)
+    outlierRounds (settingOf (receptions site (Q .z) (Q .«noise_m2») (Q .«clock_m2») n altitude) (keptAt time mm n) reference)
 
 pub removed-unread : RemovedUnread
 unfolding solveProblem

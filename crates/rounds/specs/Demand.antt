@@ -13,18 +13,18 @@ use lib.Ieee.{Float, lt, le, isNan}
 use Rattle.dense.specs.Entries.{nth}
 use Rattle.dense.specs.Factor.{found}
 use Rattle.geo.specs.Geo.{fromEcef}
-use Rattle.sets.specs.Sets.{Subset, count}
+use Rattle.sets.specs.Sets.{Subset, count, mostReceptions}
 use Rattle.sets.specs.Mask.{has}
 use Rattle.sets.specs.Choice.{FirstBest}
 use Rattle.screen.specs.Pair.{pairPasses}
 use Rattle.problem.specs.declared.Problem.{Problem}
-use Rattle.problem.specs.Problem.{position, moment, minimum}
+use Rattle.problem.specs.Problem.{position, transmitM, minimum, range}
 use Rattle.whitening.specs.Whitened.{Chosen}
 use Rattle.damped.specs.declared.Fit.{Fit}
 use Rattle.best.specs.declared.Unfit.{Unfit}
 use Rattle.limits.specs.Heights.{minHeightM, maxHeightM}
-use Rattle.best.specs.Plausible.{maxRangeM, range}
-use Rattle.best.specs.Best.{fails, gives}
+use Rattle.best.specs.Plausible.{maxRangeM}
+use Rattle.best.specs.Best.{refuses, gives}
 use Rattle.best.specs.OfProblem.{receptionsOf, whitenerOver, chosenOver, startsOver}
 use Rattle.best.specs.Meaning.{IsBest}
 use Rattle.record.specs.declared.content.Fix.{Fix}
@@ -36,55 +36,55 @@ use Rattle.rounds.specs.Setting.{survivors}
 use Rattle.rounds.specs.Solve.{limitAt, normalised, dofOf, settingAt, solveProblem}
 use Rattle.rounds.specs.Later.{Published, Withheld}
 
-module _ {Q F X : Type 0} (P : Setting Q F X) where
+module _ {Q F X : Type 0} (G : Setting Q F X) where
   -- ---- a round. "The rounds: their state is the set of included receptions": S. Beside it stand the parameters p that
   -- the round before found, if there was one: the source starts from them too.
 
   -- how many are included
   abbrev pub included : Subset → ℕ
-  included S = count S (P .n)
+  included S = count S (G .n)
 
   -- "A round makes the best fit over the included, by the steps of solve.rs, and takes every kept reception's
   -- normalised residual at that fit, by the same source.": f is that fit, and no refusal is met
   pub record Fitted (S : Subset) (p : Option Q) (f : F) : Type 0 where
-    pub enough : P .minimum ≤ included S
-    pub best : P .bestFit S p ≡ gives f
-    pub numbers : (j : ℕ) → j < P .n → T (kept P j) → T (not (isNan (P .residual f j)))
+    pub enough : G .minimum ≤ included S
+    pub best : G .bestFit S p ≡ gives f
+    pub numbers : (j : ℕ) → j < G .n → T (kept G j) → T (not (isNan (G .residual f j)))
 
   -- the residual of j is greater than that of k, or less
   abbrev pub greater : F → ℕ → ℕ → Bool
-  greater f j k = lt (P .residual f k) (P .residual f j)
+  greater f j k = lt (G .residual f k) (G .residual f j)
 
   abbrev pub less : F → ℕ → ℕ → Bool
-  less f j k = lt (P .residual f j) (P .residual f k)
+  less f j k = lt (G .residual f j) (G .residual f k)
 
   -- above 5, and not above 5
   abbrev pub Above : F → ℕ → Type 0
-  Above f j = T (lt five (P .residual f j))
+  Above f j = T (lt five (G .residual f j))
 
   abbrev pub NotAbove : F → ℕ → Type 0
-  NotAbove f j = T (le (P .residual f j) five)
+  NotAbove f j = T (le (G .residual f j) five)
 
   -- kept, but left out
   abbrev pub leftOut : Subset → Subset
-  leftOut S j = kept P j && not (S j)
+  leftOut S j = kept G j && not (S j)
 
   -- i is the greatest of the included, and above 5. "Ties go to the lowest index.": none is greater, and i is greater
   -- than each before it
   abbrev pub Worst : Subset → F → ℕ → Type 0
-  Worst S f i = FirstBest S (greater f) (P .n) i × Above f i
+  Worst S f i = FirstBest S (greater f) (G .n) i × Above f i
 
   -- i is the least of those left out, and not above 5: none is less, and i is less than each before it
   abbrev pub Least : Subset → F → ℕ → Type 0
-  Least S f i = FirstBest (leftOut S) (less f) (P .n) i × NotAbove f i
+  Least S f i = FirstBest (leftOut S) (less f) (G .n) i × NotAbove f i
 
   -- no included one is above 5
   abbrev pub NoneAbove : Subset → F → Type 0
-  NoneAbove S f = (j : ℕ) → j < P .n → T (S j) → NotAbove f j
+  NoneAbove S f = (j : ℕ) → j < G .n → T (S j) → NotAbove f j
 
   -- each that is left out is above 5
   abbrev pub NoneBack : Subset → F → Type 0
-  NoneBack S f = (j : ℕ) → j < P .n → T (leftOut S j) → Above f j
+  NoneBack S f = (j : ℕ) → j < G .n → T (leftOut S j) → Above f j
 
   -- S′ is S less i
   abbrev pub Loses : Subset → ℕ → Subset → Type 0
@@ -111,13 +111,13 @@ module _ {Q F X : Type 0} (P : Setting Q F X) where
   -- solve, and that round makes no change."
   pub data Ends (S : Subset) (p : Option Q) : Refusal → Type 0 where
     -- 1, with their number: "fewer included than 4 (3 with altitude)"
-    few : included S < P .minimum → Ends S p (TooFew (included S))
+    few : included S < G .minimum → Ends S p (TooFew (included S))
     -- 2, 3, 6 or 8: enough are included, and no best fit is found over them
-    unfit : (u : Unfit) → P .minimum ≤ included S → P .bestFit S p ≡ fails u → Ends S p (ofUnfit u)
+    unfit : (u : Unfit) → G .minimum ≤ included S → G .bestFit S p ≡ refuses u → Ends S p (ofUnfit u)
     -- 6: "a kept reception's normalised residual is not a number"
     unnumbered :
-        (f : F) (j : ℕ) → P .minimum ≤ included S → P .bestFit S p ≡ gives f
-        → j < P .n → T (kept P j) → T (isNan (P .residual f j)) → Ends S p Singular
+        (f : F) (j : ℕ) → G .minimum ≤ included S → G .bestFit S p ≡ gives f
+        → j < G .n → T (kept G j) → T (isNan (G .residual f j)) → Ends S p Singular
 
   -- ---- the rounds
 
@@ -126,16 +126,16 @@ module _ {Q F X : Type 0} (P : Setting Q F X) where
     start : {S : Subset} {p : Option Q} → Chain zero S p S p
     then :
         {k : ℕ} {S S′ E : Subset} {p q : Option Q} {f : F}
-        → Change S p S′ f → Chain k S′ (some (P .params f)) E q → Chain (suc k) S p E q
+        → Change S p S′ f → Chain k S′ (some (G .params f)) E q → Chain (suc k) S p E q
 
   -- "at first all kept ones": so many changes lead from these to E, after q
   abbrev pub Changed : ℕ → Subset → Option Q → Type 0
-  Changed k E q = Chain k (kept P) none E q
+  Changed k E q = Chain k (kept G) none E q
 
   -- at most 2s + 1 changes lead to E, after q: a round is still to come
   pub record InTime (E : Subset) (q : Option Q) : Type 0 where
     pub changes : ℕ
-    pub most : changes ≤ 2 * survivors P + 1
+    pub most : changes ≤ 2 * survivors G + 1
     pub chain : Changed changes E q
 
   -- k rounds each made a change, whatever they lead to
@@ -147,7 +147,7 @@ pub record Remaining (F X : Type 0) : Type 1 where
   pub Shows : Subset → F → X → Type 0
   pub Withholds : Subset → F → Unpublished → Type 0
 
-module _ {Q F X : Type 0} (P : Setting Q F X) (L : Remaining F X) where
+module _ {Q F X : Type 0} (G : Setting Q F X) (L : Remaining F X) where
   -- ---- the answer. "With neither, the rounds are settled, and the source's remaining steps at that round's best fit
   -- give the fix or its refusal by 3, 5, 6 or 9."
 
@@ -155,29 +155,29 @@ module _ {Q F X : Type 0} (P : Setting Q F X) (L : Remaining F X) where
   pub record Fixed (x : X) : Type 0 where
     pub used : Subset
     pub before : Option Q
-    pub inTime : InTime P used before
+    pub inTime : InTime G used before
     pub best : F
-    pub settled : Settled P used before best
+    pub settled : Settled G used before best
     pub shown : L .Shows used best x
 
   -- a refusal: met on the way, or by the remaining steps
   pub data Refused : Refusal → Type 0 where
-    early : (S : Subset) (p : Option Q) (e : Refusal) → InTime P S p → Ends P S p e → Refused e
+    early : (S : Subset) (p : Option Q) (e : Refusal) → InTime G S p → Ends G S p e → Refused e
     late :
         (S : Subset) (p : Option Q) (f : F) (u : Unpublished)
-        → InTime P S p → Settled P S p f → L .Withholds S f u → Refused (ofUnpublished u)
+        → InTime G S p → Settled G S p f → L .Withholds S f u → Refused (ofUnpublished u)
 
   -- "Demand 3 is a single claim about the whole chain of rounds and its answer": each answer is given exactly when
   pub record Claim (a : Answer X) : Type 0 where
     pub fixed : (x : X) → (a ≡ fix x) ↔ Fixed x
     pub refusals : (e : Refusal) → (a ≡ refused e) ↔ Refused e
     -- "After 2s+2 changes the answer is 4, however few are then included."
-    pub unfixed : (a ≡ noFixedPoint) ↔ EachChanged P (2 * survivors P + 2)
+    pub unfixed : (a ≡ noFixedPoint) ↔ EachChanged G (2 * survivors G + 2)
 
 -- each outcome of the setting's remaining steps is given exactly where this says so
-pub record Exactly {Q F X : Type 0} (P : Setting Q F X) (L : Remaining F X) : Type 0 where
-  pub shows : (S : Subset) (f : F) (x : X) → (P .later S f ≡ gives x) ↔ L .Shows S f x
-  pub withholds : (S : Subset) (f : F) (u : Unpublished) → (P .later S f ≡ fails u) ↔ L .Withholds S f u
+pub record Exactly {Q F X : Type 0} (G : Setting Q F X) (L : Remaining F X) : Type 0 where
+  pub shows : (S : Subset) (f : F) (x : X) → (G .later S f ≡ gives x) ↔ L .Shows S f x
+  pub withholds : (S : Subset) (f : F) (u : Unpublished) → (G .later S f ≡ refuses u) ↔ L .Withholds S f u
 
 -- ---- a problem: "an input of the solve that none of 7 and 10 to 15 turns away"
 module _ (P : Problem) where
@@ -240,7 +240,8 @@ module _ (P : Problem) where
     pub whitened : whitenerOver (receptionsOf P) (usedBy x) ≡ found factor
     pub consistent : T (not (lt (chi2LimitBy x factor) (x .chi2)))
     -- "it shows the last round's best fit"
-    pub shows : (position (h .best .params) ≡ x .ecef) × (moment (h .best .params) ≡ x .t) × (h .best .cost ≡ x .chi2)
+    pub shows : (position (h .best .params) ≡ x .ecef) × (transmitM (h .best .params) ≡ x .t)
+        × (h .best .cost ≡ x .chi2)
     -- which leads the fits from all starts of that round: it converged and is plausible, none that is costs less, each
     -- such one from an earlier start costs more; and there is "no rival among the fits from all other starts"
     pub from : ℕ
@@ -253,7 +254,7 @@ module _ (P : Problem) where
 
 -- ---- what proofs/Found.antt proves: the definition's answer meets the demand, and no other answer does
 abbrev pub DemandMet : Type 0
-DemandMet = (P : Problem) → P .n ≤ 32 → Demand P (solveProblem P)
+DemandMet = (P : Problem) → P .n ≤ mostReceptions → Demand P (solveProblem P)
 
 abbrev pub OneAnswer : Type 0
 OneAnswer = (P : Problem) (a : Answer Fix) → Demand P a → a ≡ solveProblem P

@@ -11,27 +11,18 @@ use Rattle.binary64.specs.Rounding.{halfAway}
 use Rattle.geo.specs.Geo.{C, fromEcef}
 use Rattle.dense.specs.Factor.{Factor, found, refused, cholesky}
 use Rattle.dense.specs.Inverse.{inverse}
-use Rattle.problem.specs.Problem.{position, moment}
+use Rattle.problem.specs.Problem.{position, transmitM}
 use Rattle.limits.specs.Local.{row, entry, published}
 use Rattle.damped.specs.declared.Fit.{Fit}
-use Rattle.best.specs.Best.{Outcome, fails, gives}
+use Rattle.best.specs.Best.{Outcome, refuses, gives}
 use Rattle.record.specs.declared.content.Fix.{Fix}
-use Rattle.rounds.specs.declared.finish.Finished.{Finished}
-use Rattle.rounds.specs.declared.moment.Moment.{Moment}
 use Rattle.rounds.specs.declared.finish.Unpublished.{Unpublished}
 use Rattle.rounds.specs.declared.finish.Unpublished.the-variants.{Singular, Uncertain, OutOfRange}
 
 -- whether an i64 holds it
-abbrev pub held : ℤ → Bool
-held (pos n) = ltb n (2 ^ 63)
-held (negsuc n) = ltb n (2 ^ 63)
-
--- a time where an i64 holds it
-abbrev pub beyond : Moment
-beyond = record { held = false; ps = pos 0 }
-
-abbrev pub momentOf : ℤ → Moment
-momentOf ps = cond (held ps) (record { held = true; ps = ps }) beyond
+abbrev pub fitsI64 : ℤ → Bool
+fitsI64 (pos n) = ltb n (2 ^ 63)
+fitsI64 (negsuc n) = ltb n (2 ^ 63)
 
 -- `transmit`: `reference_ps + (fit.params[3] / C * PS as f64).round() as i128`. `toSigned 127` is the cast to i128.
 unfoldable pub transmitPs : ℤ → Float → ℤ
@@ -73,7 +64,7 @@ module _ (mask dof : ℕ) (fit : Fit) where
     mask = mask;
     dof = dof;
     ecef = position (fit .params);
-    t = moment (fit .params);
+    t = transmitM (fit .params);
     position = fromEcef (position (fit .params));
     «transmit_ps» = ps;
     r0 = row c 0;
@@ -84,41 +75,18 @@ module _ (mask dof : ℕ) (fit : Fit) where
 
   -- the tests of the covariance, then of the transmit time
   abbrev pub shown : List (List Float) → ℤ → Outcome Unpublished Fix
-  shown c ps = cond (certain c) (cond (held ps) (gives (fixOf c ps)) (fails OutOfRange)) (fails Uncertain)
+  shown c ps = cond (certain c) (cond (fitsI64 ps) (gives (fixOf c ps)) (refuses OutOfRange)) (refuses Uncertain)
 
 -- and the reference
 module _ (mask dof : ℕ) (reference : ℤ) (fit : Fit) where
   -- by the factor of the fit's final information
   abbrev pub inverted : Factor → Outcome Unpublished Fix
   inverted (found l) =
-      shown mask dof fit (published (inverse l 4 (replicate 16 nought))) (transmitPs reference (moment (fit .params)))
-  inverted (refused l) = fails Singular
+      shown mask dof fit (published (inverse l 4 (replicate 16 nought)))
+      (transmitPs reference (transmitM (fit .params)))
+  inverted (refused l) = refuses Singular
 
   -- `finish`
   unfoldable pub finish : Outcome Unpublished Fix
   unfolding certain transmitPs
   finish = inverted (cholesky (fit .information) 4 (replicate 16 nought))
-
--- ---- as the code holds it
-
--- what stands in the place of a fix where there is none
-abbrev pub nothing : Fix
-nothing =
-    let none = replicate 3 nought in
-    record {
-      mask = 0;
-      dof = 0;
-      ecef = none;
-      t = nought;
-      position = record { «lat_deg» = nought; «lon_deg» = nought; «height_m» = nought };
-      «transmit_ps» = pos 0;
-      r0 = none;
-      r1 = none;
-      r2 = none;
-      chi2 = nought;
-    }
-
--- beside a refusal stands no fix, and beside a fix a refusal that means nothing
-abbrev pub asFinished : Outcome Unpublished Fix → Finished
-asFinished (fails e) = record { published = false; why = e; fix = nothing }
-asFinished (gives x) = record { published = true; why = OutOfRange; fix = x }

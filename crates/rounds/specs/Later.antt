@@ -14,14 +14,14 @@ use Rattle.dense.specs.Factor.{Factor, found, refused, cholesky}
 use Rattle.dense.specs.Inverse.{inverse}
 use Rattle.sets.specs.Sets.{Subset}
 use Rattle.sets.specs.Mask.{maskOf}
-use Rattle.problem.specs.Problem.{moment}
+use Rattle.problem.specs.Problem.{transmitM}
 use Rattle.limits.specs.Local.{entry, published}
 use Rattle.damped.specs.declared.Fit.{Fit}
 use Rattle.best.specs.OfProblem.{Receptions, whitenerOver, chosenOver}
 use Rattle.record.specs.declared.content.Fix.{Fix}
 use Rattle.rounds.specs.declared.finish.Unpublished.{Unpublished}
 use Rattle.rounds.specs.declared.finish.Unpublished.the-variants.{Inconsistent, Singular, Uncertain, OutOfRange}
-use Rattle.rounds.specs.Finish.{held, maxVarianceM2, cholesky3, transmitPs, fixOf}
+use Rattle.rounds.specs.Finish.{fitsI64, maxVarianceM2, cholesky3, transmitPs, fixOf}
 use Rattle.rounds.specs.Solve.{limitAt, dofOf}
 
 -- ---- a covariance c of three rows
@@ -48,7 +48,7 @@ covarianceBy m = published (inverse m 4 (replicate 16 nought))
 
 -- the transmit time
 abbrev pub transmit : ℤ → Fit → ℤ
-transmit reference fit = transmitPs reference (moment (fit .params))
+transmit reference fit = transmitPs reference (transmitM (fit .params))
 
 -- over the receptions S of R
 module _ (R : Receptions) (reference : ℤ) (S : Subset) (fit : Fit) where
@@ -72,7 +72,7 @@ module _ (R : Receptions) (reference : ℤ) (S : Subset) (fit : Fit) where
     pub m : List Float
     pub informed : Informed l m
     pub certain : Certain (covarianceBy m)
-    pub inI64 : T (held (transmit reference fit))
+    pub inI64 : T (fitsI64 (transmit reference fit))
     pub shows : x ≡ fixOf (maskOf S (R .n)) (dofOf R S) fit (covarianceBy m) (transmit reference fit)
 
   -- it is withheld: 6, "a Cholesky of covariance or final information fails"; 5, "chi2 above `published_chi2_limit`";
@@ -86,4 +86,4 @@ module _ (R : Receptions) (reference : ℤ) (S : Subset) (fit : Fit) where
   Withheld Uncertain = (l : List Float) × (m : List Float) × Informed l m × TooWide (covarianceBy m)
   Withheld OutOfRange =
       (l : List Float) × (m : List Float) × Informed l m × Certain (covarianceBy m)
-      × T (not (held (transmit reference fit)))
+      × T (not (fitsI64 (transmit reference fit)))

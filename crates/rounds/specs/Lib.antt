@@ -7,3 +7,4 @@ pub mod Later
 pub mod Demand
 pub mod Mirrored
 pub mod Unmoved
+pub mod Held

@@ -8,21 +8,21 @@ use Prim.Native.Nat.{ℕ, _≤_, _<_}
 use lib.Dec.{T, ltb}
 use lib.Ieee.{Float, lt, le, isNan}
 use Rattle.binary64.specs.Steps.{nought}
-use Rattle.sets.specs.Sets.{Subset}
+use Rattle.sets.specs.Sets.{Subset, mostReceptions}
 use Rattle.sets.specs.Choice.{IsChoice}
 use Rattle.rounds.specs.declared.outliers.Choice.{Choice}
 use Rattle.rounds.specs.declared.outliers.Choices.{Choices}
 use Rattle.rounds.specs.Setting.{five}
-use Rattle.rounds.specs.Rounds.{above, greater, worst, near, less, least}
+use Rattle.rounds.specs.Rounds.{above, greater, worst, readmissible, less, least}
 
 -- a choice as the code holds it, its residual beside it: 32 and 0 where there is none
 abbrev pub held : (ℕ → Float) → Option ℕ → Choice
-held z none = record { at = 32; z = nought }
+held z none = record { at = mostReceptions; z = nought }
 held z (some i) = record { at = i; z = z i }
 
 -- the reception that is held, if one is
 abbrev pub chosenBy : Choice → Option ℕ
-chosenBy c = cond (ltb (c .at) 32) (some (c .at)) none
+chosenBy c = cond (ltb (c .at) mostReceptions) (some (c .at)) none
 
 -- K are kept and S included, with the normalised residuals z
 module _ (K S : Subset) (z : ℕ → Float) where
@@ -35,7 +35,7 @@ module _ (K S : Subset) (z : ℕ → Float) where
     -- "the worst included normalised residual above 5", the lowest index on ties
     pub worst : IsChoice (above S z) (greater z) k (chosenBy (c .worst))
     -- "the least left-out one not above 5", the lowest index on ties
-    pub least : IsChoice (near K S z) (less z) k (chosenBy (c .least))
+    pub least : IsChoice (readmissible K S z) (less z) k (chosenBy (c .least))
     -- no worst exactly where no included one of these k is above 5
     pub noWorst : (chosenBy (c .worst) ≡ none) ↔ ((j : ℕ) → j < k → T (S j) → T (le (z j) five))
     -- no least exactly where each left-out one of these k is above 5
@@ -48,4 +48,4 @@ abbrev pub LookFindsBoth : Type 0
 LookFindsBoth = (K S : Subset) (z : ℕ → Float)
     → ((j : ℕ) → T (S j) → T (K j))
     → ((j : ℕ) → T (K j) → T (not (isNan (z j))))
-    → (k : ℕ) → k ≤ 32 → BothChosen K S z k (lookedTo K S z k)
+    → (k : ℕ) → k ≤ mostReceptions → BothChosen K S z k (lookedTo K S z k)

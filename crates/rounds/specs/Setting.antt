@@ -33,7 +33,7 @@ pub data Answer (X : Type 0) : Type 0 where
   refused : Refusal → Answer X
   noFixedPoint : Answer X
 
--- A problem, as the rounds see it: Q are parameters, F are fits.
+-- A problem, as the rounds see it (G below): Q are parameters, F are fits.
 pub record Setting (Q F X : Type 0) : Type 0 where
   pub n : ℕ
   -- which of the n receptions are kept
@@ -53,10 +53,10 @@ abbrev pub five : Float
 five = # 0x4014000000000000
 
 -- "Kept are the s receptions left when no pair fails the screen; s stays that number throughout."
-module _ {Q F X : Type 0} (P : Setting Q F X) where
+module _ {Q F X : Type 0} (G : Setting Q F X) where
   abbrev pub kept : Subset
-  kept = P .kept
+  kept = G .kept
 
   -- s
   abbrev pub survivors : ℕ
-  survivors = count kept (P .n)
+  survivors = count kept (G .n)

@@ -1,8 +1,6 @@
 -- `solve_problem` of solve.rs: what the rounds start from, by the problem, and the answer. Definitions only.
-use mathlib.Core.Path.{_≡_}
 use mathlib.Core.Bool.{Bool, true, false, cond}
 use mathlib.Core.List.{List}
-use mathlib.Core.Option.{Option, none, some}
 use Prim.Native.Nat.{ℕ}
 use lib.IntN.{ℤ}
 use lib.Ieee.{Float, lt}
@@ -10,7 +8,7 @@ use Rattle.refusals.specs.Refusals as refusals
 use Rattle.binary64.specs.Steps.{_⊘_, abs}
 use Rattle.dense.specs.Factor.{Factor, found, refused}
 use Rattle.sets.specs.Sets.{Subset, count}
-use Rattle.sets.specs.Mask.{has, maskOf}
+use Rattle.sets.specs.Mask.{maskOf}
 use Rattle.screen.specs.Pair as pair
 use Rattle.screen.specs.Screen as screen
 use Rattle.problem.specs.declared.Altitude.{Altitude}
@@ -21,26 +19,18 @@ use Rattle.whitening.specs.Covariance.{sigma}
 use Rattle.whitening.specs.Whitened.{Chosen, residual, whitened}
 use Rattle.limits.specs.Limits.{dof, roundingNorm, publishedChi2Limit}
 use Rattle.damped.specs.declared.Fit.{Fit}
-use Rattle.best.specs.declared.BestAt.{BestAt}
-use Rattle.best.specs.Best.{Outcome, fails}
-use Rattle.best.specs.Held.{normAt, arrayOf, asBestAt}
-use Rattle.best.specs.OfProblem.{Receptions, receptionsOf, subset, subsetSites, subsetZ, whitenerOver, chosenOver}
+use Rattle.best.specs.Best.{Outcome, refuses}
+use Rattle.best.specs.OfProblem.{Receptions, receptionsOf, whitenerOver, chosenOver}
 use Rattle.best.specs.OfProblem.{bestFitOver}
 use Rattle.record.specs.declared.content.Fix.{Fix}
-use Rattle.rounds.specs.declared.answer.Answer as code
-use Rattle.rounds.specs.declared.answer.Case.the-variants as case
 use Rattle.rounds.specs.declared.answer.Refusal.{Refusal}
 use Rattle.rounds.specs.declared.answer.Refusal.the-variants.{TooFew, NoConvergence, OutOfRange, Inconsistent}
 use Rattle.rounds.specs.declared.answer.Refusal.the-variants.{Singular, Ambiguous, Uncertain}
 use Rattle.rounds.specs.declared.finish.Unpublished.{Unpublished}
 use Rattle.rounds.specs.declared.finish.Unpublished.the-variants as unpublished
-use Rattle.rounds.specs.declared.fitting.Gathered.{Gathered}
-use Rattle.rounds.specs.declared.fitting.State.{State}
-use Rattle.rounds.specs.declared.outliers.Turn.{Turn}
-use Rattle.rounds.specs.declared.outliers.Turn.the-variants.{Ends, Changes, Settles}
 use Rattle.rounds.specs.Setting.{Answer, fix, refused, noFixedPoint, Setting}
-use Rattle.rounds.specs.Finish.{finish, nothing}
-use Rattle.rounds.specs.Rounds.{Step, ends, changes, settles, solved}
+use Rattle.rounds.specs.Finish.{finish}
+use Rattle.rounds.specs.Rounds.{outlierRounds}
 
 abbrev pub hasAltitude : Altitude → Bool
 hasAltitude None = false
@@ -63,9 +53,9 @@ module _ (R : Receptions) where
 
   -- "the source's remaining steps": the whitener again, chi-square, then `finish`
   abbrev pub tested : ℤ → Subset → Fit → Factor → Outcome Unpublished Fix
-  tested reference S fit (refused l) = fails unpublished.Singular
+  tested reference S fit (refused l) = refuses unpublished.Singular
   tested reference S fit (found l) = cond (lt (limitAt (chosenOver R S l) (dofOf S) (fit .params)) (fit .cost))
-      (fails unpublished.Inconsistent) (finish (maskOf S (R .n)) (dofOf S) reference fit)
+      (refuses unpublished.Inconsistent) (finish (maskOf S (R .n)) (dofOf S) reference fit)
 
   unfoldable pub later : ℤ → Subset → Fit → Outcome Unpublished Fix
   later reference S fit = tested reference S fit (whitenerOver R S)
@@ -91,43 +81,7 @@ settingAt P = settingOf (receptionsOf P) (keptAt (P .time) (P .«site_mm») (P .
 
 -- `solve_problem`
 unfoldable pub solveProblem : Problem → Answer Fix
-solveProblem P = solved (settingAt P)
-
--- ---- as the code holds them
-
--- what is gathered of the receptions S
-abbrev pub gathered : List Float → List Float → ℕ → Subset → Gathered
-gathered site z n S = record {
-  k = count S n;
-  index = subset n S;
-  sites = subsetSites site n S;
-  z = subsetZ z n S;
-}
-
--- the best fit over S, beside its place and its rounding norm
-abbrev pub heldOver : Receptions → Subset → Option (List Float) → BestAt
-heldOver R S previous = asBestAt (chosenOver R S (arrayOf (whitenerOver R S))) (bestFitOver R S previous)
-
--- the rounding norm of a fit of the receptions S, by the factor that whitens them
-abbrev pub NormOf : Receptions → Subset → Fit → Float → Type 0
-NormOf R S fit norm =
-    (l : List Float) × (whitenerOver R S ≡ found l) × (norm ≡ normAt (chosenOver R S l) (fit .params))
-
--- the parameters that the round before found, if there was one
-abbrev pub before : State → Option (List Float)
-before s = cond (s .had) (some (s .previous)) none
-
--- a step by the turn and the fit beside it
-abbrev pub stepOf : Turn → Fit → Step Fit
-stepOf (Ends why) f = ends why
-stepOf (Changes mask) f = changes (has mask) f
-stepOf Settles f = settles f
-
--- an answer: beside a refusal stands no fix
-abbrev pub asAnswer : Answer Fix → code.Answer
-asAnswer (fix x) = record { case = case.Fix; fix = x }
-asAnswer (refused why) = record { case = case.Refused why; fix = nothing }
-asAnswer noFixedPoint = record { case = case.NoFixedPoint; fix = nothing }
+solveProblem P = outlierRounds (settingAt P)
 
 -- ---- document 01's numbers and details
 abbrev pub refusalNumber : Refusal → ℕ

@@ -6,7 +6,7 @@ use mathlib.Core.Option.{none}
 use Prim.Native.Nat.{ℕ, _+_, _*_, _≤_}
 use lib.Dec.{T}
 use Rattle.dense.specs.Entries.{nth, at}
-use Rattle.sets.specs.Sets.{Subset}
+use Rattle.sets.specs.Sets.{Subset, mostReceptions}
 use Rattle.problem.specs.declared.Problem.{Problem}
 use Rattle.rounds.specs.Setting.{Answer, noFixedPoint, Setting, kept, survivors}
 use Rattle.rounds.specs.Rounds.{roundsTo}
@@ -14,22 +14,22 @@ use Rattle.rounds.specs.Demand.{EachChanged, rounds}
 use Rattle.rounds.specs.Solve.{solveProblem}
 
 -- ---- "Let the outlier rule have a cap on rounds, from 0 up"
-module _ {Q F X : Type 0} (P : Setting Q F X) where
+module _ {Q F X : Type 0} (G : Setting Q F X) where
   -- its answer under a cap, from all kept receptions
   abbrev pub capped : ℕ → Answer X
-  capped cap = roundsTo P cap (kept P) none
+  capped cap = roundsTo G cap (kept G) none
 
 -- "and give no fixed point exactly when that many each made a change", as demand 3 has it
 abbrev pub CapReached : Type 1
 CapReached =
-    (Q F X : Type 0) (P : Setting Q F X) (cap : ℕ)
-    → (capped P cap ≡ noFixedPoint) ↔ EachChanged P cap
+    (Q F X : Type 0) (G : Setting Q F X) (cap : ℕ)
+    → (capped G cap ≡ noFixedPoint) ↔ EachChanged G cap
 
 -- "an answer other than no fixed point at some cap is the same answer at each larger cap"
 abbrev pub SameAtLarger : Type 1
 SameAtLarger =
-    (Q F X : Type 0) (P : Setting Q F X) (cap larger : ℕ) → cap ≤ larger
-    → capped P cap ≢ noFixedPoint → capped P larger ≡ capped P cap
+    (Q F X : Type 0) (G : Setting Q F X) (cap larger : ℕ) → cap ≤ larger
+    → capped G cap ≢ noFixedPoint → capped G larger ≡ capped G cap
 
 -- "The public entry stays at 2s+2 rounds."
 abbrev pub solveCap : Problem → ℕ
@@ -69,4 +69,4 @@ pub record AlikeInKept (P Q : Problem) : Type 0 where
 
 -- their answers are equal: which it is, the detail of a refusal, and every number of a fix
 abbrev pub RemovedUnread : Type 0
-RemovedUnread = (P Q : Problem) → P .n ≤ 32 → AlikeInKept P Q → solveProblem P ≡ solveProblem Q
+RemovedUnread = (P Q : Problem) → P .n ≤ mostReceptions → AlikeInKept P Q → solveProblem P ≡ solveProblem Q

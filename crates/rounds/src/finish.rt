@@ -1,14 +1,16 @@
 // `finish` of solve.rs: what a fix shows of the fit at which the rounds settled.
 ghost use mathlib.Core.Path.{_≡_};
-ghost use Rattle.dense.specs.Factor.{verdict, cholesky};
+ghost use Rattle.dense.specs.Factor.{cholesky};
+ghost use Rattle.dense.specs.Held.{verdict};
 ghost use Rattle.dense.specs.Inverse.{inverse};
 ghost use lib.ListN.{replicate};
 ghost use Rattle.binary64.specs.Steps.{nought};
 ghost use Rattle.geo.specs.Geo.{fromEcef};
 ghost use Rattle.problem.specs.Problem.{position};
 ghost use Rattle.limits.specs.Local.{published};
-ghost use Rattle.best.specs.Best.{fails};
-ghost use Rattle.rounds.specs.Finish.{wide, certain, fixOf, finish, nothing, asFinished};
+ghost use Rattle.best.specs.Best.{refuses};
+ghost use Rattle.rounds.specs.Finish.{wide, certain, fixOf, finish};
+ghost use Rattle.rounds.specs.Held.{nothing, asFinished};
 use crate::moment::transmit;
 use damped::Fit;
 use geo::Geodetic;
@@ -56,7 +58,7 @@ pub fn nothing() -> Fix
 }
 
 pub fn withheld(why: Unpublished) -> Finished
-    ensures { λ r. ⌜ r ≡ asFinished (fails why) ⌝ }
+    ensures { λ r. ⌜ r ≡ asFinished (refuses why) ⌝ }
 {
     Finished {
         published: false,

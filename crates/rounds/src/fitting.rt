@@ -2,8 +2,8 @@
 ghost use mathlib.Core.Path.{_≡_};
 ghost use Prim.Native.Nat.{_≤_};
 ghost use Rattle.sets.specs.Mask.{has};
-ghost use Rattle.best.specs.OfProblem.{receptions};
-ghost use Rattle.rounds.specs.Solve.{gathered, heldOver, before};
+ghost use Rattle.best.specs.Held.{receptions};
+ghost use Rattle.rounds.specs.Held.{gathered, previousOf, heldOver};
 use best::BestAt;
 use problem::Altitude;
 
@@ -54,7 +54,7 @@ pub fn fit_included(
     requires { ⌜ n ≤ 32 ⌝ }
     ensures { λ r. ⌜ r ≡ heldOver
         (receptions (now (site .entry)) (now (z .entry)) (now (noise .entry)) (now (clock .entry)) n altitude)
-        (has (state .included)) (before state) ⌝ }
+        (has (state .included)) (previousOf state) ⌝ }
 {
     let included = state.included;
     let had = state.had;

@@ -18,9 +18,10 @@ ghost use lib.ListN.{replicate};
 ghost use Rattle.binary64.specs.Steps.{nought};
 ghost use Rattle.sets.specs.Mask.{has};
 ghost use Rattle.screen.specs.Screen as screen;
-ghost use Rattle.best.specs.OfProblem.{receptions};
-ghost use Rattle.rounds.specs.Rounds.{solved};
-ghost use Rattle.rounds.specs.Solve.{settingOf, keptAt, solveProblem, asAnswer};
+ghost use Rattle.best.specs.Held.{receptions};
+ghost use Rattle.rounds.specs.Rounds.{outlierRounds};
+ghost use Rattle.rounds.specs.Solve.{settingOf, keptAt, solveProblem};
+ghost use Rattle.rounds.specs.Held.{asAnswer};
 use answer::no_fixed_point;
 use answer::of_finished;
 use answer::refused;
@@ -68,7 +69,7 @@ fn outlier_rounds(
     kept: u32,
 ) -> Answer
     requires { ⌜ (n ≤ 32) × (kept < 2 ^ n) ⌝ }
-    ensures { λ r. ⌜ r ≡ asAnswer (solved
+    ensures { λ r. ⌜ r ≡ asAnswer (outlierRounds
         (settingOf (receptions (now (site .entry)) (now (z .entry)) (now (noise .entry)) (now (clock .entry)) n
         altitude) (has kept) reference)) ⌝ }
 {
@@ -113,7 +114,7 @@ pub fn solve_lent<'a>(
     reference_ps: i64,
 ) -> Answer
     requires { ⌜ n ≤ 32 ⌝ }
-    ensures { λ r. ⌜ r ≡ asAnswer (solved
+    ensures { λ r. ⌜ r ≡ asAnswer (outlierRounds
         (settingOf (receptions (now (site .entry)) (now (z .entry)) (now (noise .entry)) (now (clock .entry)) n
         altitude) (keptAt (now (time .entry)) (now («site_mm» .entry)) n) «reference_ps»)) ⌝ }
 {

@@ -2,7 +2,8 @@
 ghost use mathlib.Core.Path.{_≡_};
 ghost use Prim.Native.Nat.{_^_};
 ghost use lib.IntN.{pos, negℤ, subℕ, _+ℤ_};
-ghost use Rattle.rounds.specs.Finish.{beyond, momentOf, transmitPs};
+ghost use Rattle.rounds.specs.Finish.{transmitPs};
+ghost use Rattle.rounds.specs.Held.{beyond, momentOf};
 
 // Picoseconds in a second: of clock.rs.
 const PS: f64 = 1_000_000_000_000.0;

@@ -12,12 +12,13 @@ ghost use Rattle.sets.specs.Sets.{Subset};
 ghost use Rattle.problem.specs.declared.Altitude.{Altitude};
 ghost use Rattle.whitening.specs.Whitened.{fillTo};
 ghost use Rattle.damped.specs.declared.Fit as fit;
-ghost use Rattle.best.specs.OfProblem.{receptions};
+ghost use Rattle.best.specs.Held.{receptions};
 ghost use Rattle.rounds.specs.declared.outliers.Turn.the-variants.{Changes};
 ghost use Rattle.rounds.specs.Setting.{five};
 ghost use Rattle.rounds.specs.Rounds.{noNumber, unnumbered, decided};
 ghost use Rattle.rounds.specs.Looked.{lookedTo};
-ghost use Rattle.rounds.specs.Solve.{normalised, stepOf};
+ghost use Rattle.rounds.specs.Solve.{normalised};
+ghost use Rattle.rounds.specs.Held.{stepOf};
 use crate::Refusal;
 use sets::NONE;
 
@@ -61,8 +62,9 @@ pub fn residuals(
 ) -> [f64; 32]
     requires { ⌜ n ≤ 32 ⌝ }
     ensures { λ r. ⌜ ((altitude : Altitude) → r
-        ≡ fillTo (normalised (receptions (now (site .entry)) (now (z .entry)) (now (noise .entry)) (now (clock .entry))
-        n altitude) params) (replicate 32 nought) n) ⌝ }
+        ≡ fillTo (replicate 32 nought) (normalised
+        (receptions (now (site .entry)) (now (z .entry)) (now (noise .entry)) (now (clock .entry))
+        n altitude) params) n) ⌝ }
 {
     let mut out = [0.0; 32];
     for i in 0..n {

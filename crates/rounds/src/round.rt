@@ -5,13 +5,14 @@ ghost use lib.IntN.{ℤ};
 ghost use Rattle.binary64.specs.Steps.{nought};
 ghost use Rattle.sets.specs.Mask.{has};
 ghost use Rattle.geo.specs.Geo.{fromEcef};
+ghost use Rattle.geo.specs.Held.{nowhere};
 ghost use Rattle.problem.specs.Problem.{position};
 ghost use Rattle.damped.specs.Damped.{unfitted};
-ghost use Rattle.damped.specs.Placed.{nowhere};
-ghost use Rattle.best.specs.OfProblem.{receptions};
+ghost use Rattle.best.specs.Held.{receptions};
 ghost use Rattle.rounds.specs.Rounds as rounds;
 ghost use Rattle.rounds.specs.declared.outliers.Turn.the-variants.{Ends, Changes, Settles};
-ghost use Rattle.rounds.specs.Solve.{NormOf, before, settingOf, stepOf};
+ghost use Rattle.rounds.specs.Solve.{settingOf};
+ghost use Rattle.rounds.specs.Held.{previousOf, stepOf, NormOf};
 use crate::Refusal;
 use crate::answer::of_unfit;
 use crate::fitting::State;
@@ -68,7 +69,7 @@ pub fn round(
     requires { ⌜ (n ≤ 32) × (state .included < 2 ^ n) ⌝ }
     ensures { λ r. ⌜ ((reference : ℤ) → stepOf (r .turn) (r .fit)
         ≡ rounds.round (settingOf (receptions (now (site .entry)) (now (z .entry)) (now (noise .entry))
-        (now (clock .entry)) n altitude) (has kept) reference) (has (state .included)) (before state))
+        (now (clock .entry)) n altitude) (has kept) reference) (has (state .included)) (previousOf state))
         × ((m : ℕ) → r .turn ≡ Changes m → m < 2 ^ n) ⌝ }
     ensures { λ r. ⌜ (r .turn ≡ Settles → (r .place ≡ fromEcef (position (r .fit .params)))
         × NormOf (receptions (now (site .entry)) (now (z .entry)) (now (noise .entry)) (now (clock .entry)) n altitude)

@@ -17,8 +17,9 @@ use Rattle.sets.proofs.Tests.{either, T→eq, F→eq, eq→eqb, lt-suc-cases}
 use Rattle.sets.proofs.Counting.{count-same}
 use Rattle.sets.proofs.Digits.{has-low, has-and}
 use Rattle.sets.proofs.Masks.{count-within}
-use Rattle.screen.specs.Screen.{clashes, pairsOf}
-use Rattle.screen.specs.State.{Held, Counted, numbersOf, heldBy, lessened, start, removed}
+use Rattle.screen.specs.Screen.{clashes}
+use Rattle.screen.specs.Held.{pairsOf, numbersOf, heldBy}
+use Rattle.screen.specs.State.{Held, Counted, lessened, start, removed}
 use Rattle.screen.proofs.Rows.{zeros}
 use Rattle.screen.proofs.Removal.{Within}
 

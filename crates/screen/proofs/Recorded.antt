@@ -14,7 +14,8 @@ use Rattle.sets.specs.Sets.{Subset, without}
 use Rattle.sets.specs.Mask.{has}
 use Rattle.sets.proofs.Tests.{either, T→eq, F→eq, eq→eqb}
 use Rattle.screen.specs.Screen.{clashes, goes, aliveTo, kept}
-use Rattle.screen.specs.Turns.{takes, turnTo, clashTo, Told}
+use Rattle.screen.specs.Turns.{takes, turnTo, clashTo}
+use Rattle.screen.specs.Held.{Told}
 
 -- what is written down after k turns
 pub record Recorded (n : ℕ) (fails : ℕ → ℕ → Bool) (k : ℕ) (turns counts : List ℕ) : Type 0 where

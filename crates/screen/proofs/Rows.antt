@@ -16,7 +16,7 @@ use Rattle.sets.proofs.Tests.{either, eq→T, eq→F, and-l, and-r, and-both, l
 use Rattle.sets.proofs.Belonging.{subset-ext, in-joined}
 use Rattle.sets.proofs.Digits.{has-zero}
 use Rattle.screen.specs.Pair.{clash, fails}
-use Rattle.screen.specs.Screen.{pairsOf}
+use Rattle.screen.specs.Held.{pairsOf}
 use Rattle.screen.specs.Meaning.{Clear}
 use Rattle.screen.proofs.Symmetry.{clash-sym, clash-self}
 

@@ -8,7 +8,8 @@ use native.Mathlib.Omega.{arith}
 use lib.Dec.{T, ltb, ltb→lt, nltb→le}
 use borrow.Author.Tests.{lt-ltb, le-ltb}
 use Rattle.sets.specs.Sets.{Subset, first, without}
-use Rattle.sets.specs.Choice.{choose, indexOf}
+use Rattle.sets.specs.Choice.{choose}
+use Rattle.sets.specs.Held.{indexOf}
 use Rattle.sets.proofs.Tests.{either}
 use Rattle.sets.proofs.Choosing.{chosen-none, chosen-some, skips, begins, takes, leaves}
 use Rattle.screen.specs.Screen.{clashes, goes, aliveTo}

@@ -3,3 +3,4 @@ pub mod Screen
 pub mod Meaning
 pub mod State
 pub mod Turns
+pub mod Held

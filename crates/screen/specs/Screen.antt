@@ -1,13 +1,10 @@
 -- The removals of document 01's screen, over any relation of failing pairs, as a computation: "While a pair fails, the
 -- reception in most failing pairs goes, lowest index on ties." Definitions only; Meaning.antt says what they come to.
-use mathlib.Core.List.{List}
 use mathlib.Core.Option.{Option, Option·elim}
 use mathlib.Core.Bool.{Bool, _&&_}
 use Prim.Native.Nat.{ℕ, zero, suc}
 use lib.Dec.{ltb}
-use lib.ListN.{getD}
 use Rattle.sets.specs.Sets.{Subset, first, without, count}
-use Rattle.sets.specs.Mask.{has}
 use Rattle.sets.specs.Choice.{choose}
 
 -- of n receptions, where `fails i j` says that the pair i, j fails
@@ -32,8 +29,3 @@ module _ (n : ℕ) (fails : ℕ → ℕ → Bool) where
   unfoldable pub kept : Subset
   unfolding aliveTo
   kept = aliveTo n
-
--- the relation that rows of masks stand for: the pair i, j fails where row i has bit j
-unfoldable pub pairsOf : List ℕ → ℕ → ℕ → Bool
-unfolding has
-pairsOf rows i j = has (getD rows i 0) j

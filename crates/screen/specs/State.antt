@@ -5,27 +5,16 @@
 use mathlib.Core.Path.{_≡_}
 use mathlib.Core.Option.{Option, Option·elim}
 use mathlib.Core.Bool.{Bool, not, cond, _&&_}
-use mathlib.Core.List.{List}
 use Prim.Native.Nat.{ℕ, zero, suc, _-_, _<_}
 use lib.Dec.{T, eqb, ltb}
-use lib.ListN.{getD}
 use Rattle.sets.specs.Sets.{Subset, first, without}
-use Rattle.sets.specs.Mask.{has}
 use Rattle.sets.specs.Choice.{choose}
 use Rattle.screen.specs.Screen.{clashes, aliveTo}
-use Rattle.screen.specs.declared.State.{State}
 
 -- those still in, and the number that is stored for each reception
 pub record Held : Type 0 where
   pub alive : Subset
   pub counts : ℕ → ℕ
-
--- what the code's state holds
-abbrev pub numbersOf : List ℕ → ℕ → ℕ
-numbersOf counts i = getD counts i 0
-
-abbrev pub heldBy : State → Held
-heldBy s = record { alive = has (s .alive); counts = numbersOf (s .counts) }
 
 -- "the reception in most failing pairs goes, lowest index on ties", by the stored numbers of n; none where all are 0
 unfoldable pub mostClashing : ℕ → (ℕ → ℕ) → Option ℕ

@@ -4,12 +4,9 @@ use mathlib.Core.Path.{_≡_}
 use mathlib.Core.Logic.{_↔_}
 use mathlib.Core.Option.{some, Option·elim}
 use mathlib.Core.Bool.{Bool, false, not, cond}
-use Prim.Native.Nat.{ℕ, zero, suc, _^_, _<_}
+use Prim.Native.Nat.{ℕ, zero, suc, _<_}
 use lib.Dec.{T, eqb}
-use lib.ListN.{getD}
-use Rattle.sets.specs.Mask.{has}
 use Rattle.screen.specs.Screen.{clashes, goes, aliveTo, kept}
-use Rattle.screen.specs.declared.Outcome.{Outcome}
 
 module _ (n : ℕ) (fails : ℕ → ℕ → Bool) where
   -- reception j goes in turn t, from 1, in c failing pairs then
@@ -43,13 +40,6 @@ module _ (n : ℕ) (fails : ℕ → ℕ → Bool) where
 
   abbrev pub clashOf : ℕ → ℕ
   clashOf j = clashTo n j
-
-  -- how the code tells what the removals did
-  pub record Told (o : Outcome) : Type 0 where
-    pub survivors : has (o .kept) ≡ kept n fails
-    pub within : o .kept < 2 ^ n
-    pub turns : (j : ℕ) → getD (o .turns) j 0 ≡ turnOf j
-    pub clashes : (j : ℕ) → getD (o .clashes) j 0 ≡ clashOf j
 
 -- a removal in turn t with c failing pairs is just what both say where t is above 0
 abbrev pub TurnIsOfRemoval : Type 0

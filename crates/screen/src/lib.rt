@@ -8,12 +8,12 @@ ghost use lib.ListN.{getD, length};
 ghost use Rattle.binary64.specs.Root.{floorRoot};
 ghost use Rattle.sets.specs.Sets.{first};
 ghost use Rattle.sets.specs.Mask.{has};
-ghost use Rattle.sets.specs.Choice.{indexOf};
+ghost use Rattle.sets.specs.Held.{indexOf};
 ghost use Rattle.screen.specs.Pair as pair;
 ghost use Rattle.screen.specs.Screen as removal;
+ghost use Rattle.screen.specs.Held.{pairsOf, numbersOf, heldBy, Told};
 ghost use Rattle.screen.specs.Meaning.{Clear};
-ghost use Rattle.screen.specs.State.{numbersOf, heldBy, mostClashing, lessened, start};
-ghost use Rattle.screen.specs.Turns.{Told};
+ghost use Rattle.screen.specs.State.{mostClashing, lessened, start};
 
 // The allowance beyond the baseline, millimetres: of solve.rs.
 const SCREEN_MARGIN_MM: u64 = 1_000_000;
@@ -98,9 +98,9 @@ fn clash(times: &[i64; 32], sites: &[i64; 96], i: usize, j: usize) -> bool
 // Puts the failing pairs of reception i with those before it to `rows`, which has the pairs of these.
 fn mark(times: &[i64; 32], sites: &[i64; 96], i: usize, rows: &mut [u32; 32])
     requires { ⌜ (i < 32) × (length (now rows) ≡ 32) ⌝ }
-    requires { ⌜ removal.pairsOf (now rows) ≡ pair.fails (now times) (now sites) i ⌝ }
+    requires { ⌜ pairsOf (now rows) ≡ pair.fails (now times) (now sites) i ⌝ }
     ensures { λ r. ⌜ length (now (rows .exit)) ≡ 32 ⌝ }
-    ensures { λ r. ⌜ removal.pairsOf (now (rows .exit))
+    ensures { λ r. ⌜ pairsOf (now (rows .exit))
         ≡ pair.fails (now (times .entry)) (now (sites .entry)) (i + 1) ⌝ }
 {
     let mut j = 0usize;
@@ -116,7 +116,7 @@ fn mark(times: &[i64; 32], sites: &[i64; 96], i: usize, rows: &mut [u32; 32])
 // The failing pairs of the first n receptions: bit j of row i is set where the pair i, j fails.
 pub fn failing(times: &[i64; 32], sites: &[i64; 96], n: usize) -> [u32; 32]
     requires { ⌜ n ≤ 32 ⌝ }
-    ensures { λ r. ⌜ removal.pairsOf r ≡ pair.fails (now (times .entry)) (now (sites .entry)) n ⌝ }
+    ensures { λ r. ⌜ pairsOf r ≡ pair.fails (now (times .entry)) (now (sites .entry)) n ⌝ }
 {
     let mut rows = [0u32; 32];
     let mut i = 0usize;
@@ -137,7 +137,7 @@ struct State {
 // The state with all n in. Pairs are counted here and nowhere else.
 fn start(rows: &[u32; 32], n: usize) -> State
     requires { ⌜ n ≤ 32 ⌝ }
-    ensures { λ r. ⌜ (heldBy r ≡ start n (removal.pairsOf (now (rows .entry)))) × (r .alive < 2 ^ n) ⌝ }
+    ensures { λ r. ⌜ (heldBy r ≡ start n (pairsOf (now (rows .entry)))) × (r .alive < 2 ^ n) ⌝ }
 {
     let alive = sets::first(n);
     let mut counts = [0u32; 32];
@@ -188,7 +188,7 @@ fn lessen(rows: &[u32; 32], n: usize, w: usize, counts: &mut [u32; 32])
     requires { ⌜ (n ≤ 32) × (w < n) × (length (now counts) ≡ 32) ⌝ }
     ensures { λ r. ⌜ length (now (counts .exit)) ≡ 32 ⌝ }
     ensures { λ r. ⌜ numbersOf (now (counts .exit))
-        ≡ lessened (removal.pairsOf (now (rows .entry))) (first n) w (numbersOf (now (counts .entry))) ⌝ }
+        ≡ lessened (pairsOf (now (rows .entry))) (first n) w (numbersOf (now (counts .entry))) ⌝ }
 {
     counts[w] = 0;
     let mut i = 0usize;
@@ -209,7 +209,7 @@ pub struct Outcome {
 // The removals, one after another, until no pair of `rows` is left.
 pub fn removals(rows: &[u32; 32], n: usize) -> Outcome
     requires { ⌜ n ≤ 32 ⌝ }
-    ensures { λ r. ⌜ Told n (removal.pairsOf (now (rows .entry))) r ⌝ }
+    ensures { λ r. ⌜ Told n (pairsOf (now (rows .entry))) r ⌝ }
 {
     let mut state = start(rows, n);
     let mut turns = [0u32; 32];
@@ -234,7 +234,7 @@ pub fn removals(rows: &[u32; 32], n: usize) -> Outcome
 // Whether no two of n receptions fail: no row has any.
 fn clear(rows: &[u32; 32], n: usize) -> bool
     requires { ⌜ n ≤ 32 ⌝ }
-    ensures { λ r. ⌜ (r ≡ true → Clear n (removal.pairsOf (now (rows .entry))) (first n)) ⌝ }
+    ensures { λ r. ⌜ (r ≡ true → Clear n (pairsOf (now (rows .entry))) (first n)) ⌝ }
 {
     let mut i = 0usize;
     while i < n {
@@ -249,7 +249,7 @@ fn clear(rows: &[u32; 32], n: usize) -> bool
 // Those of n receptions that are left once no pair of `rows` is. Nothing is counted where none is.
 pub fn kept(rows: &[u32; 32], n: usize) -> u32
     requires { ⌜ n ≤ 32 ⌝ }
-    ensures { λ r. ⌜ (has r ≡ removal.kept n (removal.pairsOf (now (rows .entry)))) × (r < 2 ^ n) ⌝ }
+    ensures { λ r. ⌜ (has r ≡ removal.kept n (pairsOf (now (rows .entry)))) × (r < 2 ^ n) ⌝ }
 {
     if clear(rows, n) {
         return sets::first(n);

@@ -8,7 +8,8 @@ use native.Mathlib.Omega.{arith}
 use native.Mathlib.Numerals.{add-one}
 use lib.Dec.{T, T-not, not-T, ltb, leb, ltb→lt, nltb→le}
 use borrow.Author.Tests.{le-leb, lt-leb}
-use Rattle.sets.specs.Choice.{consider, choose, indexOf, FirstBest, IsChoice, Ranks, PassFindsChoice, OneChoice}
+use Rattle.sets.specs.Choice.{consider, choose, FirstBest, IsChoice, Ranks, PassFindsChoice, OneChoice}
+use Rattle.sets.specs.Held.{indexOf}
 use Rattle.sets.proofs.Tests.{either, eq→T, eq→F, lt-suc-cases, neither-below}
 
 -- ---- the pass finds the choice

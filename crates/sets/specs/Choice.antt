@@ -20,11 +20,6 @@ unfolding consider
 choose p beats zero = none
 choose p beats (suc k) = consider beats (p k) k (choose p beats k)
 
--- how code holds a choice among at most 32: the index, or 32 for none
-abbrev pub indexOf : Option ℕ → ℕ
-indexOf none = 32
-indexOf (some i) = i
-
 -- ---- what the choice is
 
 -- i is a candidate below k that none of them beats, and it beats each candidate before it

@@ -1,3 +1,4 @@
 pub mod Sets
 pub mod Mask
 pub mod Choice
+pub mod Held

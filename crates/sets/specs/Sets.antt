@@ -8,6 +8,10 @@ use lib.ListN.{set}
 abbrev pub Subset : Type 0
 Subset = ℕ → Bool
 
+-- document 01, the domain: "n 0 to 32" receptions
+abbrev pub mostReceptions : ℕ
+mostReceptions = 32
+
 -- the receptions 0 to n - 1
 abbrev pub first : ℕ → Subset
 first n i = ltb i n
@@ -24,6 +28,10 @@ without S i j = S j && not (eqb j i)
 unfoldable pub count : Subset → ℕ → ℕ
 count S zero = 0
 count S (suc k) = cond (S k) 1 0 + count S k
+
+-- whether one of the receptions below n is in S: Rust's `any`
+abbrev pub any : Subset → ℕ → Bool
+any S n = ltb 0 (count S n)
 
 -- `subset` of solve.rs: those of S below n, ascending, in the array index
 unfoldable pub membersTo : Subset → List ℕ → ℕ → List ℕ

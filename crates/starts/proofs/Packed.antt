@@ -9,7 +9,7 @@ use Rattle.geo.specs.Geo.{fromEcef, enuBasis}
 use Rattle.geo.specs.declared.Geodetic.{Geodetic}
 use Rattle.problem.specs.declared.Altitude.{Altitude}
 use Rattle.starts.specs.declared.Points.{Points}
-use Rattle.starts.specs.Points.{empty, push, packed}
+use Rattle.starts.specs.Held.{empty, push, packed}
 use Rattle.starts.specs.Lifted.{centroid, lifted, ringPlace, circleTo, ring}
 use Rattle.starts.specs.Bancroft.{allFinite, placeAt, places, bancroft}
 use Rattle.starts.specs.Starts.{startHeight, starts}

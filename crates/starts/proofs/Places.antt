@@ -9,22 +9,22 @@ use borrow.Author.Tests.{lt-ltb}
 use Rattle.dense.specs.Entries.{nth}
 use Rattle.problem.specs.Problem.{four}
 use Rattle.starts.specs.declared.Points.{Points}
-use Rattle.starts.specs.Points.{empty, stored, push, packed, point}
+use Rattle.starts.specs.Held.{empty, putPoint, push, packed, point}
 use Rattle.starts.proofs.Stores.{four-kept, four-read}
 
 module _ (a : List Float) (k : ℕ) (p : List Float) where
-  stored-length : length (stored a k p) ≡ length a
+  stored-length : length (putPoint a k p) ≡ length a
   stored-length = simp length-set
 
   -- the start at k once it is stored, and one before it
-  here : k < 18 → length a ≡ 72 → point (stored a k p) k ≡ four (nth p)
+  here : k < 18 → length a ≡ 72 → point (putPoint a k p) k ≡ four (nth p)
   here h l = four-read a (4 * k) (nth p 0) (nth p 1) (nth p 2) (nth p 3) (omega arith)
 
-  elsewhere : (j : ℕ) → j < k → point (stored a k p) j ≡ point a j
+  elsewhere : (j : ℕ) → j < k → point (putPoint a k p) j ≡ point a j
   elsewhere j h = four-kept a (4 * k) (nth p 0) (nth p 1) (nth p 2) (nth p 3) (4 * j) (omega arith)
 
 abbrev next : Points → List Float → Points
-next s p = record { n = s .n + 1; at = stored (s .at) (s .n) p }
+next s p = record { n = s .n + 1; at = putPoint (s .at) (s .n) p }
 
 pushed : (s : Points) (p : List Float) → s .n < 18 → push s p ≡ next s p
 unfolding push

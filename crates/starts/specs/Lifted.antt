@@ -11,8 +11,8 @@ use Rattle.libm.specs.Trig.{sin, cos}
 use Rattle.geo.specs.Geo.{toEcef, fromEcef}
 use Rattle.geo.specs.declared.Geodetic.{Geodetic}
 use Rattle.dense.specs.Entries.{nth}
-use Rattle.linalg.specs.Vec3.{sub, add, scale, norm}
-use Rattle.problem.specs.Problem.{siteAt}
+use Rattle.linalg.specs.Vec3.{add, scale}
+use Rattle.problem.specs.Problem.{siteAt, range}
 
 -- n, `subset.len().max(1) as f64`
 unfoldable pub size : ℕ → Float
@@ -32,7 +32,7 @@ module _ (sites z : List Float) where
   -- zero".
   unfoldable pub sentTo : List Float → ℕ → Float
   sentTo x zero = nought
-  sentTo x (suc i) = sentTo x i ⊕ (nth z i ⊖ norm (sub x (siteAt sites i)))
+  sentTo x (suc i) = sentTo x i ⊕ (nth z i ⊖ range sites x i)
 
   -- `[x[0], x[1], x[2], t]`: a place, and the mean of the times of k receptions
   unfoldable pub timed : ℕ → List Float → List Float

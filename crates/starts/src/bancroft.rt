@@ -4,7 +4,7 @@ ghost use mathlib.Core.Bool.{cond};
 ghost use mathlib.Core.List.{[], _∷_};
 ghost use Prim.Native.Nat.{_<_, _≤_};
 ghost use Rattle.binary64.specs.Steps.{_⊗_, half, one};
-ghost use Rattle.starts.specs.Points.{packed};
+ghost use Rattle.starts.specs.Held.{packed};
 ghost use Rattle.starts.specs.Bancroft.{lorentz, rowAt, productsTo, rhsTo, pseudo, lambdas, allFinite, placeAt};
 ghost use Rattle.starts.specs.Bancroft.{places, crossed, bancroft};
 use crate::Points;

@@ -9,7 +9,7 @@ ghost use mathlib.Core.List.{[], _∷_};
 ghost use Prim.Native.Nat.{_<_, _≤_};
 ghost use Rattle.dense.specs.Entries.{nth};
 ghost use Rattle.problem.specs.Problem.{four};
-ghost use Rattle.starts.specs.Points.{empty, push, packed, point};
+ghost use Rattle.starts.specs.Held.{empty, push, packed, point};
 ghost use Rattle.starts.specs.Starts.{startHeight, startsAfter};
 use bancroft::with_bancroft;
 use lifted::centroid;

@@ -5,7 +5,7 @@ ghost use Rattle.binary64.specs.Steps.{_⊖_};
 ghost use Rattle.dense.specs.Entries.{nth};
 ghost use Rattle.linalg.specs.Vec3.{sub, norm};
 ghost use Rattle.problem.specs.Problem.{siteAt};
-ghost use Rattle.starts.specs.Points.{packed};
+ghost use Rattle.starts.specs.Held.{packed};
 ghost use Rattle.starts.specs.Lifted.{size, centroid, timed, lifted, bearing, ringPlace, circleTo, ring};
 use crate::Points;
 use crate::push;

@@ -9,21 +9,22 @@ use borrow.Author.Tests.{le-leb, lt-leb}
 use lib.Dec.{eqb, leb}
 use lib.ListN.{length, take, drop}
 use Rattle.inputs.specs.declared.Given.{Given}
-use Rattle.inputs.specs.Inputs.{Inputs, given}
+use Rattle.inputs.specs.Inputs.{Inputs, ifThere}
 use Rattle.entry.specs.Reply.{lent, answer, output}
 use Rattle.entry.specs.Reply as reply
 use Rattle.entry.specs.Cut.{filed, presentBits}
 use Rattle.entry.proofs.Cut.{cut-replies-alike}
 use Rattle.stream.specs.declared.Head.{Head}
 use Rattle.stream.specs.declared.Solved.{Solved}
-use Rattle.stream.specs.Frames.{absent, headOf, there, sizeOf, clockFrom, altitudeFrom, referenceFrom, bodyBytes}
-use Rattle.stream.specs.Frames.{input, partsOf, asked, presentOf, torn, whole, solved, outputAfter, solvedNext, outputNext}
+use Rattle.stream.specs.Frames.{absent, headOf, sizeOf, clockFrom, altitudeFrom, referenceFrom, bodyBytes}
+use Rattle.stream.specs.Frames.{input, partsOf, asked, torn, whole, solved, outputAfter, solvedNext, outputNext}
+use Rattle.stream.specs.Held.{there, presentOf}
 
 -- bytes that are lent, if they are there
-placed : (mark from : ℕ) (body : List ℕ) → given (there mark) (take (sizeOf mark) (drop from body)) ≡ input mark from body
+placed : (mark from : ℕ) (body : List ℕ) → ifThere (there mark) (take (sizeOf mark) (drop from body)) ≡ input mark from body
 placed mark from body = go (eqb mark absent) refl
   where
-    go : (b : Bool) → eqb mark absent ≡ b → given (there mark) (take (sizeOf mark) (drop from body)) ≡ input mark from body
+    go : (b : Bool) → eqb mark absent ≡ b → ifThere (there mark) (take (sizeOf mark) (drop from body)) ≡ input mark from body
     go true e = rw e
     go false e = rw e
 
@@ -37,9 +38,9 @@ received mark body = go (eqb mark absent) refl
 
 -- four inputs by bits are four inputs that are there or not
 by-bits
-    : (rs cs al re : List ℕ) (c a r : Bool) → lent rs cs al re (presentBits c a r) ≡ filed rs (given c cs) (given a al) (given r re)
+    : (rs cs al re : List ℕ) (c a r : Bool) → lent rs cs al re (presentBits c a r) ≡ filed rs (ifThere c cs) (ifThere a al) (ifThere r re)
 by-bits rs cs al re c a r =
-    ap (λ (g : Given). filed rs (given (g .clock) cs) (given (g .altitude) al) (given (g .reference) re)) (cut-replies-alike .bits c a r)
+    ap (λ (g : Given). filed rs (ifThere (g .clock) cs) (ifThere (g .altitude) al) (ifThere (g .reference) re)) (cut-replies-alike .bits c a r)
 
 alike
     : (rs rs′ : List ℕ) (c c′ a a′ r r′ : Option (List ℕ)) → rs ≡ rs′ → c ≡ c′ → a ≡ a′ → r ≡ r′ → filed rs c a r ≡ filed rs′ c′ a′ r′
@@ -55,9 +56,9 @@ module _ (h : Head) (body out : List ℕ) where
         lent (take a body) (take (a + b - a) (drop a body)) (take (a + b + c - (a + b)) (drop (a + b) body))
         (take (a + b + c + d - (a + b + c)) (drop (a + b + c) body)) p
 
-    part : (mark from k j : ℕ) → k ≡ sizeOf mark → from ≡ j → given (there mark) (take k (drop from body)) ≡ input mark j body
+    part : (mark from k j : ℕ) → k ≡ sizeOf mark → from ≡ j → ifThere (there mark) (take k (drop from body)) ≡ input mark j body
     part mark from k j e f =
-        ap₂ (λ (x y : ℕ). given (there mark) (take x (drop y body))) e f ∙ placed mark j body
+        ap₂ (λ (x y : ℕ). ifThere (there mark) (take x (drop y body))) e f ∙ placed mark j body
 
     as-asked : lending ≡ asked (partsOf h body)
     as-asked =

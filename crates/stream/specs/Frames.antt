@@ -2,7 +2,7 @@
 -- the lengths of its receptions, clock covariance, altitude and reference, u32 each, little-endian, where 0xFFFFFFFF
 -- marks an input that is absent; then the bytes of the inputs that are there, in this order. Definitions only.
 use Prim.Native.Nat.{ℕ, _+_, _-_, _%_, min}
-use mathlib.Core.Bool.{Bool, true, false, not, cond}
+use mathlib.Core.Bool.{true, false, cond}
 use mathlib.Core.List.{List, []}
 use mathlib.Core.Option.{Option, none, some, Option·getD}
 use lib.Dec.{eqb, leb}
@@ -10,7 +10,7 @@ use lib.ListN.{length, take, drop}
 use Rattle.words.specs.Words.{u32At}
 use Rattle.receptions.specs.Receptions.{receptionBytes}
 use Rattle.inputs.specs.Inputs.{Inputs}
-use Rattle.entry.specs.Cut.{filed, oneTooMany, taken, presentBits}
+use Rattle.entry.specs.Cut.{filed, oneTooMany, taken}
 use Rattle.entry.specs.Reply.{answer, output}
 use Rattle.stream.specs.declared.Head.{Head}
 use Rattle.stream.specs.declared.Solved.{Solved}
@@ -22,13 +22,6 @@ absent = 4_294_967_295
 
 abbrev pub headOf : List ℕ → Head
 headOf s = record { receptions = u32At s 0; clock = u32At s 4; altitude = u32At s 8; reference = u32At s 12 }
-
-abbrev pub there : ℕ → Bool
-there mark = not (eqb mark absent)
-
--- the bits of the inputs that are there, as `lent` reads them
-abbrev pub presentOf : Head → ℕ
-presentOf h = presentBits (there (h .clock)) (there (h .altitude)) (there (h .reference))
 
 -- how many bytes an input has, by its length or mark
 abbrev pub sizeOf : ℕ → ℕ

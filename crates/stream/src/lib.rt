@@ -6,6 +6,8 @@ ghost use mathlib.Core.Path.{_≡_};
 ghost use mathlib.Core.Bool.{cond};
 ghost use lib.ListN.{length};
 ghost use Rattle.stream.specs.Frames as frames;
+ghost use Rattle.stream.specs.Held.{presentOf};
+ghost use Rattle.stream.specs.Held as held;
 
 // The bytes of the four lengths.
 pub const HEAD: usize = 16;
@@ -64,7 +66,7 @@ pub fn size_of(mark: u32) -> usize
 
 // The bit of an input, if it is there.
 fn bit(mark: u32, value: u32) -> u32
-    ensures { λ r. ⌜ (r ≡ cond (frames.there mark) value 0) × (r ≤ value) ⌝ }
+    ensures { λ r. ⌜ (r ≡ cond (held.there mark) value 0) × (r ≤ value) ⌝ }
 {
     if mark == ABSENT {
         return 0;
@@ -74,7 +76,7 @@ fn bit(mark: u32, value: u32) -> u32
 
 // Which inputs there are, as `entry::solve` asks.
 fn present_of(head: Head) -> u32
-    ensures { λ r. ⌜ r ≡ frames.presentOf head ⌝ }
+    ensures { λ r. ⌜ r ≡ presentOf head ⌝ }
 {
     bit(head.clock, 1) + bit(head.altitude, 2) + bit(head.reference, 4)
 }

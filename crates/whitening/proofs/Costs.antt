@@ -13,7 +13,8 @@ use Rattle.binary64.specs.Steps.{_⊕_, _⊗_}
 use Rattle.dense.specs.Entries.{nth}
 use Rattle.dense.specs.Solve.{forwardTo, forward}
 use Rattle.whitening.specs.Whitened.{Rows, fillTo}
-use Rattle.whitening.specs.Normal.{costTo, normalTo}
+use Rattle.whitening.specs.Normal.{normalTo}
+use Rattle.whitening.specs.Held.{costTo}
 
 -- the cost of the normal equations is that of the residuals
 pub cost-is : (w : Rows) (i : ℕ) → normalTo w i .cost ≡ costTo (w .r) i
@@ -40,23 +41,23 @@ unfolding forwardTo
 forward-length l n b zero = refl
 forward-length l n b (suc i) = length-set (forwardTo l n b i) i _ ∙ forward-length l n b i
 
-pub fill-length : (f : ℕ → Float) (out : List Float) (n : ℕ) → length (fillTo f out n) ≡ length out
+pub fill-length : (f : ℕ → Float) (out : List Float) (n : ℕ) → length (fillTo out f n) ≡ length out
 unfolding fillTo
 fill-length f out zero = refl
-fill-length f out (suc n) = length-set (fillTo f out n) n (f n) ∙ fill-length f out n
+fill-length f out (suc n) = length-set (fillTo out f n) n (f n) ∙ fill-length f out n
 
 -- and one that is solved in place keeps its room
-pub room-left : (l : List Float) (f : ℕ → Float) (out : List Float) (k n : ℕ) → length (forward l k (fillTo f out n)) ≡ length out
-room-left l f out k n = forward-length l k (fillTo f out n) k ∙ fill-length f out n
+pub room-left : (l : List Float) (f : ℕ → Float) (out : List Float) (k n : ℕ) → length (forward l k (fillTo out f n)) ≡ length out
+room-left l f out k n = forward-length l k (fillTo out f n) k ∙ fill-length f out n
 
 -- a filled array holds what it is filled with
-pub fill-at : (f : ℕ → Float) (out : List Float) (n j : ℕ) → n ≤ length out → j < n → nth (fillTo f out n) j ≡ f j
+pub fill-at : (f : ℕ → Float) (out : List Float) (n j : ℕ) → n ≤ length out → j < n → nth (fillTo out f n) j ≡ f j
 unfolding fillTo
 fill-at f out zero j l h = absurd (omega arith)
 fill-at f out (suc n) j l h = let here : j ≤ n = omega arith in go (eq-or-lt-of-le here) (λ k. fill-at f out n j (omega arith) k)
   where
     known : List Float
-    known = fillTo f out n
+    known = fillTo out f n
 
     go : (j ≡ n) ⊎ (j < n) → (j < n → nth known j ≡ f j) → getD (set known n (f n)) j nan ≡ f j
     go (inl e) rec = ap (λ (x : ℕ). getD (set known n (f n)) x nan) e

@@ -13,11 +13,11 @@ use Rattle.geo.specs.declared.Geodetic.{Geodetic}
 use Rattle.problem.specs.Problem.{position}
 use Rattle.problem.specs.declared.Altitude.{Altitude}
 use Rattle.problem.specs.declared.Altitude.the-variants.{None, Barometric, Gnss}
-use Rattle.whitening.specs.Whitened.{Chosen, Rows, rows, blank, raw, rawRow, slopeAt, fillTo, upRow, placeOf, pushAltitude, whitenedColumn}
-use Rattle.whitening.specs.Whitened.{whitened, beside}
+use Rattle.whitening.specs.Whitened.{Chosen, Rows, rows, noRows, raw, rawRow, slopeAt, fillTo, upRow, pushAltitude, whitenedColumn}
+use Rattle.whitening.specs.Whitened.{whitened}
 use Rattle.whitening.specs.declared.Equations.{Equations}
-use Rattle.whitening.specs.Normal.{costTo, normal, evaluated}
-use Rattle.whitening.specs.Held.{Slopes, columnOver, over}
+use Rattle.whitening.specs.Normal.{normal, evaluated}
+use Rattle.whitening.specs.Held.{Slopes, columnOver, over, rowPlace, beside, costTo}
 use Rattle.whitening.proofs.Costs.{cost-is}
 use Rattle.whitening.proofs.Over.{Alike, over-alike, cost-alike, normal-alike}
 
@@ -69,7 +69,7 @@ receivedOver P p held = let column = columnOver P p in
 
 -- residuals that an array held, beside zeros
 abbrev pub alone : Chosen → List Float → Rows
-alone P r = rows (P .k) r blank blank blank blank
+alone P r = rows (P .k) r noRows noRows noRows noRows
 
 -- neither the residuals nor how many rows there are turn on the slopes
 push-r : (altitude : Altitude) (g : Geodetic) (k : ℕ) (r a b c d : List Float) → pushAltitude altitude g (rows k r a b c d) .r
@@ -91,13 +91,13 @@ unfolding rawRow
 raw-slope sites z p = (refl, (refl, (refl, refl)))
 
 -- no row looks at the place where there is no altitude
-placed : (altitude : Altitude) (p : List Float) (w : Rows) → pushAltitude altitude (placeOf altitude p) w
+placed : (altitude : Altitude) (p : List Float) (w : Rows) → pushAltitude altitude (rowPlace altitude p) w
     ≡ pushAltitude altitude (fromEcef (position p)) w
 placed None p w = refl
 placed (Barometric metres) p w = refl
 placed (Gnss metres) p w = refl
 
-module _ (P : Chosen) (p : List Float) (g : Geodetic) (place : g ≡ placeOf (P .altitude) p) where
+module _ (P : Chosen) (p : List Float) (g : Geodetic) (place : g ≡ rowPlace (P .altitude) p) where
   same : (w : Rows) → pushAltitude (P .altitude) g w ≡ pushAltitude (P .altitude) (fromEcef (position p)) w
   same w = ap (λ (at : Geodetic). pushAltitude (P .altitude) at w) place ∙ placed (P .altitude) p w
 
@@ -129,17 +129,17 @@ module _ (P : Chosen) (p : List Float) (g : Geodetic) (place : g ≡ placeOf (P 
 
   -- the slopes over what arrays held, joined
   pub slopes-joined : (m : ℕ) (a₀ b₀ c₀ d₀ : List Float) {a₁ b₁ c₁ d₁ a₂ b₂ c₂ d₂ a b c d : List Float} →
-      (a₁ ≡ fillTo (slopeAt (P .sites) p 0) a₀ (P .k))
-      × ((b₁ ≡ fillTo (slopeAt (P .sites) p 1) b₀ (P .k))
-      × ((c₁ ≡ fillTo (slopeAt (P .sites) p 2) c₀ (P .k)) × (d₁ ≡ fillTo (λ i. neg one) d₀ (P .k)))) →
+      (a₁ ≡ fillTo a₀ (slopeAt (P .sites) p 0) (P .k))
+      × ((b₁ ≡ fillTo b₀ (slopeAt (P .sites) p 1) (P .k))
+      × ((c₁ ≡ fillTo c₀ (slopeAt (P .sites) p 2) (P .k)) × (d₁ ≡ fillTo d₀ (λ i. neg one) (P .k)))) →
       Four (λ j y y₁. y₁ ≡ forward (P .whitener) (P .k) y) a₁ b₁ c₁ d₁ a₂ b₂ c₂ d₂ →
       ((r : List Float) → rows m (pushAltitude (P .altitude) g (rows (P .k) r [] [] [] []) .r) a b c d
       ≡ pushAltitude (P .altitude) g (rows (P .k) r a₂ b₂ c₂ d₂)) →
-      (r : List Float) → rows m r a b c d ≡ beside r (over P p (rows (P .k) blank a₀ b₀ c₀ d₀))
+      (r : List Float) → rows m r a b c d ≡ beside r (over P p (rows (P .k) noRows a₀ b₀ c₀ d₀))
   slopes-joined m a₀ b₀ c₀ d₀ {a₂ = a₂} {b₂ = b₂} {c₂ = c₂} {d₂ = d₂} f h u r =
       let raws = raw-slope (P .sites) (P .z) p in
-      let held = rows (P .k) blank a₀ b₀ c₀ d₀ in
-      let all : rows (P .k) (columnOver P p 0 blank) a₂ b₂ c₂ d₂ ≡ receivedOver P p held =
+      let held = rows (P .k) noRows a₀ b₀ c₀ d₀ in
+      let all : rows (P .k) (columnOver P p 0 noRows) a₂ b₂ c₂ d₂ ≡ receivedOver P p held =
       rw (
         h .0,
         h .1 .0,
@@ -155,25 +155,25 @@ module _ (P : Chosen) (p : List Float) (g : Geodetic) (place : g ≡ placeOf (P 
         raws .1 .1 .1,
       ) in
       ap (beside r)
-      (u (columnOver P p 0 blank) ∙ ap (λ (w : Rows). pushAltitude (P .altitude) g w) all ∙ same (receivedOver P p held))
+      (u (columnOver P p 0 noRows) ∙ ap (λ (w : Rows). pushAltitude (P .altitude) g w) all ∙ same (receivedOver P p held))
 
 module _ (P : Chosen) (p : List Float) where
   -- all rows, over zeros
   pub whitened-joined : (m : ℕ) {r₀ a₀ b₀ c₀ d₀ r a b c d : List Float} →
-      (r₀ ≡ blank) × (a₀ ≡ blank) × (b₀ ≡ blank) × (c₀ ≡ blank) × (d₀ ≡ blank) → r ≡ over P p (alone P r₀) .r
-      → rows m r a b c d ≡ beside r (over P p (rows (P .k) blank a₀ b₀ c₀ d₀)) → rows m r a b c d ≡ whitened P p
+      (r₀ ≡ noRows) × (a₀ ≡ noRows) × (b₀ ≡ noRows) × (c₀ ≡ noRows) × (d₀ ≡ noRows) → r ≡ over P p (alone P r₀) .r
+      → rows m r a b c d ≡ beside r (over P p (rows (P .k) noRows a₀ b₀ c₀ d₀)) → rows m r a b c d ≡ whitened P p
   unfolding whitened
   whitened-joined m {a₀ = a₀} {b₀ = b₀} {c₀ = c₀} {d₀ = d₀} {r = r} z f h =
-      let all : over P p (rows (P .k) blank a₀ b₀ c₀ d₀) ≡ whitened P p = rw (z .1, z .2, z .3, z .4) in
+      let all : over P p (rows (P .k) noRows a₀ b₀ c₀ d₀) ≡ whitened P p = rw (z .1, z .2, z .3, z .4) in
       let first : r ≡ whitened P p .r = f ∙ ap (λ (y : List Float). over P p (alone P y) .r) (z .0) in
       h ∙ ap (beside r) all ∙ ap (λ (y : List Float). beside y (whitened P p)) first
 
   -- the normal equations, from the slopes that are found and some residuals
   pub slopes-beside : P .k ≤ 32 → (e : Equations) (m : ℕ) (r a₀ b₀ c₀ d₀ : List Float) {a b c d : List Float} → Slopes a₀ b₀ c₀ d₀
-      → e ≡ normal (rows m r a b c d) → rows m r a b c d ≡ beside r (over P p (rows (P .k) blank a₀ b₀ c₀ d₀))
+      → e ≡ normal (rows m r a b c d) → rows m r a b c d ≡ beside r (over P p (rows (P .k) noRows a₀ b₀ c₀ d₀))
       → e ≡ normal (beside r (whitened P p))
   slopes-beside few e m r a₀ b₀ c₀ d₀ room f h =
-      let held = rows (P .k) blank a₀ b₀ c₀ d₀ in
+      let held = rows (P .k) noRows a₀ b₀ c₀ d₀ in
       let like = over-alike P p few held refl room in
       f ∙ ap normal h
       ∙ normal-alike (beside r (over P p held)) (beside r (whitened P p)) (like .0, λ j l. refl, like .2, like .3, like .4, like .5)

@@ -16,9 +16,9 @@ use Rattle.geo.specs.declared.Geodetic.{Geodetic}
 use Rattle.problem.specs.Problem.{position}
 use Rattle.problem.specs.declared.Altitude.{Altitude}
 use Rattle.problem.specs.declared.Altitude.the-variants.{None, Barometric, Gnss}
-use Rattle.whitening.specs.Whitened.{Chosen, Rows, rows, blank, raw, fillTo, pushAltitude, whitenedColumn, whitened, beside}
-use Rattle.whitening.specs.Normal.{costTo, normalTo, normal}
-use Rattle.whitening.specs.Held.{Slopes, columnOver, over}
+use Rattle.whitening.specs.Whitened.{Chosen, Rows, rows, noRows, raw, fillTo, pushAltitude, whitenedColumn, whitened}
+use Rattle.whitening.specs.Normal.{normalTo, normal}
+use Rattle.whitening.specs.Held.{Slopes, columnOver, over, beside, costTo}
 use Rattle.whitening.proofs.Costs.{forward-length, fill-length, fill-at, room-left}
 
 -- two arrays hold the same below n
@@ -62,11 +62,11 @@ module _ (P : Chosen) (p : List Float) (few : P .k ≤ 32) (j : ℕ) (held : Lis
   column-alike =
       let f = raw (P .sites) (P .z) p j in
       let k = P .k in
-      let zeros : length blank ≡ 33 = refl in
-      let x = fillTo f held k in
-      let y = fillTo f blank k in
-      let filled : Alike k x y = λ i l. fill-at f held k i (omega arith) l ∙ sym (fill-at f blank k i (omega arith) l) in
-      solved-alike (P .whitener) k x y (omega (arith, fill-length f held k)) (omega (arith, fill-length f blank k)) filled k (omega arith)
+      let zeros : length noRows ≡ 33 = refl in
+      let x = fillTo held f k in
+      let y = fillTo noRows f k in
+      let filled : Alike k x y = λ i l. fill-at f held k i (omega arith) l ∙ sym (fill-at f noRows k i (omega arith) l) in
+      solved-alike (P .whitener) k x y (omega (arith, fill-length f held k)) (omega (arith, fill-length f noRows k)) filled k (omega arith)
 
   pub column-room : length (columnOver P p j held) ≡ 33
   column-room = room-left (P .whitener) (raw (P .sites) (P .z) p j) held (P .k) (P .k) ∙ long
@@ -74,7 +74,7 @@ module _ (P : Chosen) (p : List Float) (few : P .k ≤ 32) (j : ℕ) (held : Lis
   -- and with the altitude's row
   pub pushed-alike : (v : Float) → Alike (P .k + 1) (set (columnOver P p j held) (P .k) v) (set (whitenedColumn P p j) (P .k) v)
   pushed-alike v =
-      let zeros : length (whitenedColumn P p j) ≡ 33 = room-left (P .whitener) (raw (P .sites) (P .z) p j) blank (P .k) (P .k) in
+      let zeros : length (whitenedColumn P p j) ≡ 33 = room-left (P .whitener) (raw (P .sites) (P .z) p j) noRows (P .k) (P .k) in
       more (P .k + 1) (P .k) (columnOver P p j held) (whitenedColumn P p j) v v (omega arith) (omega (arith, column-room)) (omega arith) refl
       column-alike
 

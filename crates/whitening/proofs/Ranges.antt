@@ -8,7 +8,8 @@ use native.Mathlib.Omega.{arith}
 use lib.ListN.{length, set}
 use lib.Seq.{getD-set-same, getD-set-other}
 use lib.Ieee.{Float, nan}
-use Rattle.binary64.specs.Root.{root, rootsTo}
+use Rattle.binary64.specs.Root.{root}
+use Rattle.binary64.specs.Held.{rootsTo}
 use Rattle.dense.specs.Entries.{nth}
 use Rattle.whitening.specs.Whitened.{fillTo}
 
@@ -26,7 +27,7 @@ one-more d f i v l before e j h =
       | inr g ↦ ap root (getD-set-other d i j v nan (λ same. omega arith)) ∙ before j g
     ]
 
-pub roots-fill : (d out : List Float) (f : ℕ → Float) (k : ℕ) → Squared d f k → rootsTo d out k ≡ fillTo f out k
+pub roots-fill : (d out : List Float) (f : ℕ → Float) (k : ℕ) → Squared d f k → rootsTo d out k ≡ fillTo out f k
 unfolding rootsTo fillTo
 roots-fill d out f zero h = refl
 roots-fill d out f (suc k) h =

@@ -2,13 +2,18 @@
 -- Definitions only.
 use mathlib.Core.Path.{_≡_}
 use mathlib.Core.List.{List}
-use Prim.Native.Nat.{ℕ, _<_}
+use Prim.Native.Nat.{ℕ, _<_, zero, suc}
 use lib.ListN.{length}
 use lib.Ieee.{Float}
+use Rattle.binary64.specs.Steps.{nought, _⊕_, _⊗_}
 use Rattle.dense.specs.Entries.{nth}
 use Rattle.dense.specs.Solve.{forward}
 use Rattle.geo.specs.Geo.{fromEcef}
+use Rattle.geo.specs.declared.Geodetic.{Geodetic}
+use Rattle.geo.specs.Held.{nowhere}
 use Rattle.problem.specs.Problem.{position}
+use Rattle.problem.specs.declared.Altitude.{Altitude}
+use Rattle.problem.specs.declared.Altitude.the-variants.{None, Barometric, Gnss}
 use Rattle.whitening.specs.Whitened.{Chosen, Rows, rows, rangeAt, raw, fillTo, pushAltitude}
 
 -- the first k of an array are the ranges of the receptions
@@ -27,7 +32,7 @@ Scratch r squared ranges a b c d =
 
 -- `whitenedColumn` over what an array held in the place of zeros: what lies past the k rows stays
 abbrev pub columnOver : Chosen → List Float → ℕ → List Float → List Float
-columnOver P p j held = forward (P .whitener) (P .k) (fillTo (raw (P .sites) (P .z) p j) held (P .k))
+columnOver P p j held = forward (P .whitener) (P .k) (fillTo held (raw (P .sites) (P .z) p j) (P .k))
 
 -- `whitened` over what five arrays held
 abbrev pub over : Chosen → List Float → Rows → Rows
@@ -35,3 +40,28 @@ over P p held =
     pushAltitude (P .altitude) (fromEcef (position p))
     (rows (P .k) (columnOver P p 0 (held .r)) (columnOver P p 1 (held .a)) (columnOver P p 2 (held .b))
     (columnOver P p 3 (held .c)) (columnOver P p 4 (held .d)))
+
+-- the place of the altitude's row: `geo::from_ecef(x)`, which is asked for where there is an altitude; zeros stand for
+-- it elsewhere
+abbrev pub rowPlace : Altitude → List Float → Geodetic
+rowPlace None p = nowhere
+rowPlace (Barometric metres) p = fromEcef (position p)
+rowPlace (Gnss metres) p = fromEcef (position p)
+
+-- the slopes of the rows w beside residuals r
+abbrev pub beside : List Float → Rows → Rows
+beside r w = rows (w .count) r (w .a) (w .b) (w .c) (w .d)
+
+-- `cost += r * r`, after i turns
+unfoldable pub costTo : List Float → ℕ → Float
+costTo r zero = nought
+costTo r (suc i) = costTo r i ⊕ nth r i ⊗ nth r i
+
+abbrev pub chosen : ℕ → List Float → List Float → List Float → Altitude → Chosen
+chosen k sites z whitener altitude = record {
+  k = k;
+  sites = sites;
+  z = z;
+  whitener = whitener;
+  altitude = altitude;
+}

@@ -19,11 +19,6 @@ plusProducts m row =
 unfoldable pub plusMultiple : List Float → List Float → Float → List Float
 plusMultiple v row value = four (λ i. nth v i ⊕ nth row i ⊗ value)
 
--- `cost += r * r`, after i turns
-unfoldable pub costTo : List Float → ℕ → Float
-costTo r zero = nought
-costTo r (suc i) = costTo r i ⊕ nth r i ⊗ nth r i
-
 -- `for (r, row) in residuals.iter().zip(jacobian)`, after i turns
 unfoldable pub normalTo : Rows → ℕ → Equations
 normalTo w zero = record { information = replicate 16 nought; gradient = replicate 4 nought; cost = nought }
@@ -43,4 +38,4 @@ normal w = normalTo w (w .count)
 
 -- the normal equations at p
 unfoldable pub evaluated : Chosen → List Float → Equations
-evaluated P p = normal (whitened P p)
+evaluated C p = normal (whitened C p)

@@ -7,10 +7,10 @@ use lib.Ieee.{Float, neg}
 use Rattle.binary64.specs.Steps.{_⊖_, _⊘_, nought, one, decimal}
 use Rattle.dense.specs.Entries.{nth}
 use Rattle.dense.specs.Solve.{forward}
-use Rattle.linalg.specs.Vec3.{sub, norm}
+use Rattle.linalg.specs.Vec3.{sub}
 use Rattle.geo.specs.Geo.{fromEcef, enuBasis}
 use Rattle.geo.specs.declared.Geodetic.{Geodetic}
-use Rattle.problem.specs.Problem.{siteAt, position, moment}
+use Rattle.problem.specs.Problem.{siteAt, position, transmitM, range}
 use Rattle.problem.specs.declared.Altitude.{Altitude}
 use Rattle.problem.specs.declared.Altitude.the-variants.{None, Barometric, Gnss}
 
@@ -21,15 +21,6 @@ pub record Chosen : Type 0 where
   pub z : List Float
   pub whitener : List Float
   pub altitude : Altitude
-
-abbrev pub chosen : ℕ → List Float → List Float → List Float → Altitude → Chosen
-chosen k sites z whitener altitude = record {
-  k = k;
-  sites = sites;
-  z = z;
-  whitener = whitener;
-  altitude = altitude;
-}
 
 -- what `whitened` gives: how many rows, their residuals r, and their slopes a, b, c and d along the four parameters
 pub record Rows : Type 0 where
@@ -50,13 +41,13 @@ rows count r a b c d = record {
   d = d;
 }
 
--- the range of reception i: `linalg::norm(delta)`, delta the place of p less the site
+-- the range of reception i at the parameters p: `linalg::norm(delta)`, delta the place of p less the site
 abbrev pub rangeAt : List Float → List Float → ℕ → Float
-rangeAt sites p i = norm (sub (position p) (siteAt sites i))
+rangeAt sites p i = range sites (position p) i
 
 -- `residual`: z - T - |x - site|, from the left
 unfoldable pub residual : List Float → List Float → List Float → ℕ → Float
-residual sites z p i = nth z i ⊖ moment p ⊖ rangeAt sites p i
+residual sites z p i = nth z i ⊖ transmitM p ⊖ rangeAt sites p i
 
 -- its slope along an axis: `-delta[axis] / range`
 abbrev pub slopeAt : List Float → List Float → ℕ → ℕ → Float
@@ -77,24 +68,17 @@ abbrev pub raw : List Float → List Float → List Float → ℕ → ℕ → Fl
 raw sites z p j i = nth (rawRow sites z p i) j
 
 -- the array out with f 0, .., f (k - 1) in its first k places
-unfoldable pub fillTo : (ℕ → Float) → List Float → ℕ → List Float
-fillTo f out zero = out
-fillTo f out (suc k) = set (fillTo f out k) k (f k)
+unfoldable pub fillTo : List Float → (ℕ → Float) → ℕ → List Float
+fillTo out f zero = out
+fillTo out f (suc k) = set (fillTo out f k) k (f k)
 
 -- room for 32 receptions and the altitude
-abbrev pub blank : List Float
-blank = replicate 33 nought
+abbrev pub noRows : List Float
+noRows = replicate 33 nought
 
 -- entry j of all k rows, whitened: `whitener.forward`
 abbrev pub whitenedColumn : Chosen → List Float → ℕ → List Float
-whitenedColumn P p j = forward (P .whitener) (P .k) (fillTo (raw (P .sites) (P .z) p j) blank (P .k))
-
--- the place of the altitude's row: `geo::from_ecef(x)`, which is asked for where there is an altitude; zeros stand for
--- it elsewhere
-abbrev pub placeOf : Altitude → List Float → Geodetic
-placeOf None p = record { «lat_deg» = nought; «lon_deg» = nought; «height_m» = nought }
-placeOf (Barometric metres) p = fromEcef (position p)
-placeOf (Gnss metres) p = fromEcef (position p)
+whitenedColumn C p j = forward (C .whitener) (C .k) (fillTo noRows (raw (C .sites) (C .z) p j) (C .k))
 
 -- the unit vector up at a place: `enu_basis(..)[2]`
 abbrev pub up : Geodetic → List Float
@@ -109,23 +93,19 @@ abbrev pub heightRow : Float → Float → Geodetic → List Float
 heightRow metres sigma g = ((g .«height_m» ⊖ metres) ⊘ sigma) ∷ upRow sigma g
 
 -- one row more, after the others
-abbrev pub push : Rows → List Float → Rows
-push w row = let put : List Float → ℕ → List Float = λ y j. set y (w .count) (nth row j) in
+abbrev pub pushRow : Rows → List Float → Rows
+pushRow w row = let put : List Float → ℕ → List Float = λ y j. set y (w .count) (nth row j) in
     rows (w .count + 1) (put (w .r) 0) (put (w .a) 1) (put (w .b) 2) (put (w .c) 3) (put (w .d) 4)
 
 -- "the altitude row last", where there is an altitude, whose "one standard deviation" is `BARO_SIGMA_M` = 100 or
 -- `GNSS_SIGMA_M` = 15 metres
 abbrev pub pushAltitude : Altitude → Geodetic → Rows → Rows
 pushAltitude None g w = w
-pushAltitude (Barometric metres) g w = push w (heightRow metres (decimal 100 0) g)
-pushAltitude (Gnss metres) g w = push w (heightRow metres (decimal 15 0) g)
+pushAltitude (Barometric metres) g w = pushRow w (heightRow metres (decimal 100 0) g)
+pushAltitude (Gnss metres) g w = pushRow w (heightRow metres (decimal 15 0) g)
 
 -- `whitened`: the rows of the receptions, and the altitude's
 unfoldable pub whitened : Chosen → List Float → Rows
-whitened P p = let column = whitenedColumn P p in
-    pushAltitude (P .altitude) (fromEcef (position p))
-    (rows (P .k) (column 0) (column 1) (column 2) (column 3) (column 4))
-
--- the slopes of the rows w beside residuals r
-abbrev pub beside : List Float → Rows → Rows
-beside r w = rows (w .count) r (w .a) (w .b) (w .c) (w .d)
+whitened C p = let column = whitenedColumn C p in
+    pushAltitude (C .altitude) (fromEcef (position p))
+    (rows (C .k) (column 0) (column 1) (column 2) (column 3) (column 4))

@@ -9,10 +9,9 @@ ghost use lib.Ieee.{Float};
 ghost use Rattle.binary64.specs.Root.{root};
 ghost use Rattle.geo.specs.Geo.{fromEcef};
 ghost use Rattle.problem.specs.Problem.{position};
-ghost use Rattle.whitening.specs.Whitened.{rangeAt, residual, fillTo, raw, placeOf, pushAltitude};
-ghost use Rattle.whitening.specs.Whitened.{blank, chosen, rows, whitened};
-ghost use Rattle.whitening.specs.Normal.{costTo};
-ghost use Rattle.whitening.specs.Held.{Ranged};
+ghost use Rattle.whitening.specs.Whitened.{rangeAt, residual, fillTo, raw, pushAltitude};
+ghost use Rattle.whitening.specs.Whitened.{noRows, rows, whitened};
+ghost use Rattle.whitening.specs.Held.{Ranged, rowPlace, costTo, chosen};
 use crate::slopes::slopes;
 use geo::Geodetic;
 use problem::Altitude;
@@ -60,7 +59,7 @@ fn ranges_of(
 )
     requires { ⌜ (k ≤ 32) × (length (now squared) ≡ 32) ⌝ }
     ensures { λ _. ⌜ length (now (squared .exit)) ≡ 32 ⌝ }
-    ensures { λ _. ⌜ now (ranges .exit) ≡ fillTo (rangeAt (now (sites .entry)) p) (now (ranges .entry)) k ⌝ }
+    ensures { λ _. ⌜ now (ranges .exit) ≡ fillTo (now (ranges .entry)) (rangeAt (now (sites .entry)) p) k ⌝ }
 {
     for i in 0..k {
         squared[i] = squared_range(sites, i, p);
@@ -79,9 +78,9 @@ fn raw_residuals(
     ranges: &mut [f64; 32],
 )
     requires { ⌜ (k ≤ 32) × (length (now squared) ≡ 32) × (length (now ranges) ≡ 32) ⌝ }
-    ensures { λ _. ⌜ now (r .exit) ≡ fillTo (raw (now (sites .entry)) (now (z .entry)) p 0) (now (r .entry)) k ⌝ }
+    ensures { λ _. ⌜ now (r .exit) ≡ fillTo (now (r .entry)) (raw (now (sites .entry)) (now (z .entry)) p 0) k ⌝ }
     ensures { λ _. ⌜ length (now (squared .exit)) ≡ 32 ⌝ }
-    ensures { λ _. ⌜ now (ranges .exit) ≡ fillTo (rangeAt (now (sites .entry)) p) (now (ranges .entry)) k ⌝ }
+    ensures { λ _. ⌜ now (ranges .exit) ≡ fillTo (now (ranges .entry)) (rangeAt (now (sites .entry)) p) k ⌝ }
 {
     ranges_of(sites, k, p, &mut *squared, &mut *ranges);
     for i in 0..k {
@@ -116,7 +115,7 @@ pub fn residuals(
     requires { ⌜ (k ≤ 32) × (length (now r) ≡ 33) × (length (now squared) ≡ 32) × (length (now ranges) ≡ 32) ⌝ }
     ensures { λ _. ⌜ (length (now (r .exit)) ≡ 33)
         × (now (r .exit) ≡ forward (now (l .entry)) k
-        (fillTo (raw (now (sites .entry)) (now (z .entry)) p 0) (now (r .entry)) k)) ⌝ }
+        (fillTo (now (r .entry)) (raw (now (sites .entry)) (now (z .entry)) p 0) k)) ⌝ }
     ensures { λ _. ⌜ length (now (squared .exit)) ≡ 32 ⌝ }
     ensures { λ _. ⌜ (length (now (ranges .exit)) ≡ 32)
         × Ranged (now (sites .entry)) p k (now (ranges .exit)) ⌝ }
@@ -129,7 +128,7 @@ pub fn residuals(
 
 // The place that the altitude's row is of; zeros where there is no altitude, since no row asks for it.
 pub fn place(altitude: Altitude, p: [f64; 4]) -> Geodetic
-    ensures { λ g. ⌜ g ≡ placeOf altitude p ⌝ }
+    ensures { λ g. ⌜ g ≡ rowPlace altitude p ⌝ }
 {
     match altitude {
         Altitude::None => Geodetic {
@@ -144,7 +143,7 @@ pub fn place(altitude: Altitude, p: [f64; 4]) -> Geodetic
 
 // The same, where the place of p is known.
 pub fn row_place(altitude: Altitude, place: Geodetic) -> Geodetic
-    ensures { λ g. ⌜ ((p : List Float) → place ≡ fromEcef (position p) → g ≡ placeOf altitude p) ⌝ }
+    ensures { λ g. ⌜ ((p : List Float) → place ≡ fromEcef (position p) → g ≡ rowPlace altitude p) ⌝ }
 {
     match altitude {
         Altitude::None => Geodetic {
@@ -206,8 +205,8 @@ pub fn whitened(
     c: &mut [f64; 33],
     d: &mut [f64; 33],
 ) -> usize
-    requires { ⌜ (k ≤ 32) × (geodetic ≡ placeOf altitude p) ⌝ }
-    requires { ⌜ (now r ≡ blank) × (now a ≡ blank) × (now b ≡ blank) × (now c ≡ blank) × (now d ≡ blank) ⌝ }
+    requires { ⌜ (k ≤ 32) × (geodetic ≡ rowPlace altitude p) ⌝ }
+    requires { ⌜ (now r ≡ noRows) × (now a ≡ noRows) × (now b ≡ noRows) × (now c ≡ noRows) × (now d ≡ noRows) ⌝ }
     ensures { λ m. ⌜ m ≤ 33 ⌝ }
     ensures { λ m. ⌜ rows m (now (r .exit)) (now (a .exit)) (now (b .exit)) (now (c .exit)) (now (d .exit))
         ≡ whitened (chosen k (now (sites .entry)) (now (z .entry)) (now (l .entry)) altitude) p ⌝ }

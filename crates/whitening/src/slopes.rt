@@ -7,9 +7,9 @@ ghost use Rattle.dense.specs.Solve.{forward};
 ghost use mathlib.Core.List.{List, [], _∷_};
 ghost use lib.Ieee.{Float, neg};
 ghost use Rattle.binary64.specs.Steps.{one};
-ghost use Rattle.whitening.specs.Whitened.{rangeAt, slopeAt, fillTo, upRow, placeOf, pushAltitude};
-ghost use Rattle.whitening.specs.Whitened.{blank, chosen, rows, beside};
-ghost use Rattle.whitening.specs.Held.{Ranged, over};
+ghost use Rattle.whitening.specs.Whitened.{rangeAt, slopeAt, fillTo, upRow, pushAltitude};
+ghost use Rattle.whitening.specs.Whitened.{noRows, rows};
+ghost use Rattle.whitening.specs.Held.{Ranged, over, rowPlace, beside, chosen};
 use crate::rows::BARO_SIGMA_M;
 use crate::rows::GNSS_SIGMA_M;
 use geo::Geodetic;
@@ -63,10 +63,10 @@ fn raw_slopes(
     d: &mut [f64; 33],
 )
     requires { ⌜ (k ≤ 32) × Ranged (now sites) p k (now ranges) ⌝ }
-    ensures { λ _. ⌜ now (a .exit) ≡ fillTo (slopeAt (now (sites .entry)) p 0) (now (a .entry)) k ⌝ }
-    ensures { λ _. ⌜ now (b .exit) ≡ fillTo (slopeAt (now (sites .entry)) p 1) (now (b .entry)) k ⌝ }
-    ensures { λ _. ⌜ now (c .exit) ≡ fillTo (slopeAt (now (sites .entry)) p 2) (now (c .entry)) k ⌝ }
-    ensures { λ _. ⌜ now (d .exit) ≡ fillTo (λ i. neg one) (now (d .entry)) k ⌝ }
+    ensures { λ _. ⌜ now (a .exit) ≡ fillTo (now (a .entry)) (slopeAt (now (sites .entry)) p 0) k ⌝ }
+    ensures { λ _. ⌜ now (b .exit) ≡ fillTo (now (b .entry)) (slopeAt (now (sites .entry)) p 1) k ⌝ }
+    ensures { λ _. ⌜ now (c .exit) ≡ fillTo (now (c .entry)) (slopeAt (now (sites .entry)) p 2) k ⌝ }
+    ensures { λ _. ⌜ now (d .exit) ≡ fillTo (now (d .entry)) (λ i. neg one) k ⌝ }
 {
     for i in 0..k {
         let row = slope_row(sites, i, p, ranges[i]);
@@ -187,11 +187,11 @@ pub fn slopes(
     c: &mut [f64; 33],
     d: &mut [f64; 33],
 ) -> usize
-    requires { ⌜ (k ≤ 32) × Ranged (now sites) p k (now ranges) × (geodetic ≡ placeOf altitude p) ⌝ }
+    requires { ⌜ (k ≤ 32) × Ranged (now sites) p k (now ranges) × (geodetic ≡ rowPlace altitude p) ⌝ }
     ensures { λ m. ⌜ m ≤ 33 ⌝ }
     ensures { λ m. ⌜ ((z r : List Float) → rows m r (now (a .exit)) (now (b .exit)) (now (c .exit)) (now (d .exit))
         ≡ beside r (over (chosen k (now (sites .entry)) z (now (l .entry)) altitude) p
-        (rows k blank (now (a .entry)) (now (b .entry)) (now (c .entry)) (now (d .entry))))) ⌝ }
+        (rows k noRows (now (a .entry)) (now (b .entry)) (now (c .entry)) (now (d .entry))))) ⌝ }
 {
     raw_slopes(sites, k, p, ranges, &mut *a, &mut *b, &mut *c, &mut *d);
     forward4(l, k, &mut *a, &mut *b, &mut *c, &mut *d);

@@ -3,9 +3,9 @@ ghost use mathlib.Core.Path.{_≡_};
 ghost use mathlib.Core.List.{List};
 ghost use Prim.Native.Nat.{_≤_};
 ghost use lib.Ieee.{Float};
-ghost use Rattle.whitening.specs.Whitened.{placeOf, chosen, rows, whitened, beside};
+ghost use Rattle.whitening.specs.Whitened.{rows, whitened};
 ghost use Rattle.whitening.specs.Normal.{plusProducts, plusMultiple, normal, evaluated};
-ghost use Rattle.whitening.specs.Held.{Ranged, Slopes, Scratch};
+ghost use Rattle.whitening.specs.Held.{Ranged, Slopes, Scratch, rowPlace, beside, chosen};
 use crate::Equations;
 use crate::rows::push_height;
 use crate::rows::residuals;
@@ -101,7 +101,7 @@ pub fn completed(
     c: &mut [f64; 33],
     d: &mut [f64; 33],
 ) -> Equations
-    requires { ⌜ (k ≤ 32) × Ranged (now sites) p k (now ranges) × (geodetic ≡ placeOf altitude p) ⌝ }
+    requires { ⌜ (k ≤ 32) × Ranged (now sites) p k (now ranges) × (geodetic ≡ rowPlace altitude p) ⌝ }
     requires { ⌜ Slopes (now a) (now b) (now c) (now d) ⌝ }
     ensures { λ e. ⌜ ((z : List Float) → e
         ≡ normal (beside (now (r .entry)) (whitened (chosen k (now (sites .entry)) z (now (l .entry)) altitude) p))) ⌝ }
@@ -129,7 +129,7 @@ pub fn evaluated(
     c: &mut [f64; 33],
     d: &mut [f64; 33],
 ) -> Equations
-    requires { ⌜ (k ≤ 32) × (geodetic ≡ placeOf altitude p) ⌝ }
+    requires { ⌜ (k ≤ 32) × (geodetic ≡ rowPlace altitude p) ⌝ }
     requires { ⌜ Scratch (now r) (now squared) (now ranges) (now a) (now b) (now c) (now d) ⌝ }
     ensures { λ e. ⌜ e ≡ evaluated (chosen k (now (sites .entry)) (now (z .entry)) (now (l .entry)) altitude) p ⌝ }
     ensures { λ _. ⌜ Scratch (now (r .exit)) (now (squared .exit)) (now (ranges .exit)) (now (a .exit)) (now (b .exit))

@@ -2,7 +2,7 @@
 // on the diagonal plus the clock covariance.
 ghost use mathlib.Core.Path.{_≡_};
 ghost use Prim.Native.Nat.{ℕ, _-_, _<_, _≤_};
-ghost use Rattle.dense.specs.Factor.{verdict};
+ghost use Rattle.dense.specs.Held.{verdict};
 ghost use Rattle.problem.specs.Gathered.{pick};
 ghost use Rattle.whitening.specs.Covariance.{shared, covarianceRowTo, covariance, sigma, whitener};
 use linalg::Matrix;

@@ -14,7 +14,8 @@ use Rattle.rounds.specs.declared.answer.Case.{Case}
 use Rattle.rounds.specs.declared.answer.Case.the-variants as case
 use Rattle.rounds.specs.declared.answer.Refusal.{Refusal}
 use Rattle.rounds.specs.Setting.{Answer}
-use Rattle.rounds.specs.Solve.{asAnswer, refusalNumber, refusalDetail, solveProblem}
+use Rattle.rounds.specs.Solve.{refusalNumber, refusalDetail, solveProblem}
+use Rattle.rounds.specs.Held.{asAnswer}
 use Rattle.entry.proofs.Replies.{told, answer-is}
 use Rattle.why.specs.declared.Verdict.{Verdict}
 use Rattle.why.specs.Why.{verdictOf, statesOf, verdictBy, statesBy, verdict, states}

@@ -13,8 +13,8 @@ use Rattle.sets.specs.Mask.{has}
 use Rattle.words.specs.Words.{putU32, putU64, putF64, putWord}
 use Rattle.words.proofs.Back.{put-length}
 use Rattle.screen.specs.declared.Outcome.{Outcome}
-use Rattle.screen.specs.Screen.{pairsOf}
-use Rattle.screen.specs.Turns.{Told, turnOf, clashOf}
+use Rattle.screen.specs.Held.{pairsOf, Told}
+use Rattle.screen.specs.Turns.{turnOf, clashOf}
 use Rattle.problem.specs.declared.Problem.{Problem}
 use Rattle.whitening.specs.Whitened.{fillTo}
 use Rattle.whitening.proofs.Costs.{fill-at}
@@ -24,7 +24,8 @@ use Rattle.record.specs.Record.{written}
 use Rattle.rounds.specs.Solve.{normalised}
 use Rattle.rounds.specs.Demand.{paramsBy}
 use Rattle.why.specs.declared.State.{State}
-use Rattle.why.specs.States.{stateBy, stateIn, clashing, residualAt, stateOf, numberOf, turnIn, clashesIn, residualIn, rowsAt, statesTo}
+use Rattle.why.specs.States.{stateBy, clashing, residualAt, stateOf, numberOf, turnIn, clashesIn, residualIn, rowsAt, statesTo}
+use Rattle.why.specs.Held.{stateIn}
 
 -- no byte comes or goes
 rows-length : (s : List ℕ) (k : ℕ) (t : State) → length (written s (rowsAt k t)) ≡ length s
@@ -62,7 +63,7 @@ states-same out f g (suc k) h =
 module _ (P : Problem) (x : Fix) (N : P .n ≤ 32) (rows : List ℕ) (o : Outcome) (z : List Float) where
   pub told
       : pairsOf rows ≡ clashing P → Told (P .n) (pairsOf rows) o
-      → z ≡ fillTo (normalised (receptionsOf P) (paramsBy P x)) (replicate 32 nought) (P .n)
+      → z ≡ fillTo (replicate 32 nought) (normalised (receptionsOf P) (paramsBy P x)) (P .n)
       → (out : List ℕ) → statesTo out (stateIn (x .mask) (o .turns) (o .clashes) z) (P .n) ≡ statesTo out (stateOf P x) (P .n)
   unfolding stateOf
   told e t r out = states-same out (stateIn (x .mask) (o .turns) (o .clashes) z) (stateOf P x) (P .n) (λ j l. each j l)

@@ -1,3 +1,4 @@
 pub mod States
 pub mod Why
 pub mod Meaning
+pub mod Held

@@ -7,6 +7,7 @@ use Prim.Native.Nat.{ℕ, _+_, _*_, _≤_, _<_}
 use lib.Dec.{T}
 use lib.ListN.{length, getD, replicate}
 use lib.Ieee.{lt}
+use Rattle.sets.specs.Sets.{mostReceptions}
 use Rattle.screen.specs.Turns.{RemovedAt}
 use Rattle.problem.specs.declared.Problem.{Problem}
 use Rattle.inputs.specs.Inputs.{Inputs, problemOf}
@@ -41,7 +42,7 @@ module _ (P : Problem) (x : Fix) where
 -- the state that is given holds, and no other does
 abbrev pub OneStateHolds : Type 0
 OneStateHolds =
-    (P : Problem) → P .n ≤ 32 → (x : Fix) → solveProblem P ≡ fix x → (j : ℕ) → j < P .n
+    (P : Problem) → P .n ≤ mostReceptions → (x : Fix) → solveProblem P ≡ fix x → (j : ℕ) → j < P .n
     → (s : State) → Holds P x j s ↔ (s ≡ stateOf P x j)
 
 -- ---- where it stands

@@ -4,11 +4,8 @@ use mathlib.Core.Bool.{Bool, cond}
 use mathlib.Core.List.{List, [], _∷_}
 use Prim.Native.Nat.{ℕ, zero, suc, _+_, _*_}
 use lib.Dec.{ltb}
-use lib.ListN.{getD}
 use lib.Ieee.{Float}
 use Rattle.binary64.specs.Steps.{nought}
-use Rattle.dense.specs.Entries.{nth}
-use Rattle.sets.specs.Mask.{has}
 use Rattle.screen.specs.Pair as pair
 use Rattle.screen.specs.Turns.{turnOf, clashOf}
 use Rattle.problem.specs.declared.Problem.{Problem}
@@ -24,10 +21,6 @@ use Rattle.why.specs.declared.State.the-variants.{Used, Removed, LeftOut
 -- count, and has this normalised residual
 abbrev pub stateBy : Bool → ℕ → ℕ → Float → State
 stateBy used turn clashes z = cond used (Used z) (cond (ltb 0 turn) (Removed turn clashes) (LeftOut z))
-
--- the same by what the code holds of n receptions: the mask of the used; arrays of turns, clash counts, residuals
-abbrev pub stateIn : ℕ → List ℕ → List ℕ → List Float → ℕ → State
-stateIn mask turns clashes z j = stateBy (has mask j) (getD turns j 0) (getD clashes j 0) (nth z j)
 
 -- which pairs of a problem's receptions fail the screen
 abbrev pub clashing : Problem → ℕ → ℕ → Bool

@@ -7,7 +7,7 @@ use native.Mathlib.Omega.{arith}
 use lib.Dec.{leb, ltb}
 use borrow.Author.Tests.{leb-true, leb-false, le-leb, lt-leb}
 use Rattle.wide.specs.declared.Wide.{Wide}
-use Rattle.wide.specs.Wide.{valueOf, wideOf}
+use Rattle.wide.specs.Held.{valueOf, wideOf}
 
 pub words : (h l n : ℕ) → h * 2 ^ 64 + l ≡ n → l < 2 ^ 64 → _≡_ {A = Wide} (record { hi = h; lo = l }) (wideOf n)
 words h l n e s =

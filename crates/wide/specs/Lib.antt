@@ -1,2 +1,2 @@
-pub mod Wide
 pub mod Root
+pub mod Held

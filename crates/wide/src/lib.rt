@@ -4,7 +4,7 @@ ghost use Prim.Native.Nat.{_+_, _-_, _*_, _^_, _≤_, _<_};
 ghost use lib.Dec.{leb};
 ghost use lib.IntN.{pos, natAbs, _+ℤ_, _-ℤ_};
 ghost use Rattle.binary64.specs.Root.{floorRoot};
-ghost use Rattle.wide.specs.Wide.{valueOf, wideOf};
+ghost use Rattle.wide.specs.Held.{valueOf, wideOf};
 
 // 2^32: a word is two digits to this base.
 const BASE: u64 = 0x1_0000_0000;

@@ -18,7 +18,8 @@ use Rattle.wire.specs.declared.Wire.{Wire}
 use Rattle.wire.specs.declared.Written.{Written}
 use Rattle.wire.specs.declared.Written.the-variants as written
 use Rattle.wire.specs.Nearest.{signed}
-use Rattle.wire.specs.Wire.{perDegree, perMetre, inUnits, AtMost, within, writable, ofPosition, toWire}
+use Rattle.wire.specs.Wire.{perDegree, perMetre, inUnits, within, writable, ofPosition, toWire}
+use Rattle.wire.specs.Held.{AtMost}
 use Rattle.wire.specs.Meaning.{Nearest, IsNearest, WithinLimits, IsWritten, WritesExactly, RefusesOthers}
 use Rattle.wire.proofs.Meaning.{by-units}
 use Rattle.wire.proofs.Arms.{whole, beyond, unread, fixless, fixed}

@@ -9,7 +9,8 @@ use lib.Ieee.{Float, neg, round, ofBits}
 use Rattle.binary64.specs.Steps.{#, decimal}
 use Rattle.geo.specs.declared.Geodetic.{Geodetic}
 use Rattle.limits.specs.Heights.{minHeightM, maxHeightM}
-use Rattle.wire.specs.Wire.{AtMost, within, writable, inUnits}
+use Rattle.wire.specs.Wire.{within, writable, inUnits}
+use Rattle.wire.specs.Held.{AtMost}
 use Rattle.wire.proofs.Reach.{left, right, tested, widen, few}
 
 pub quarter-turn : decimal 90 0 ≡ # 0x4056800000000000

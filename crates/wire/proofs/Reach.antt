@@ -16,7 +16,8 @@ use borrow.Author.Tests.{ltb-true, eqb-true}
 use Rattle.binary64.proofs.Decode.{fields, fields-mid}
 use Rattle.binary64.proofs.Patterns.{back}
 use Rattle.wire.specs.Nearest.{halfUp}
-use Rattle.wire.specs.Wire.{inUnits, AtMost, within}
+use Rattle.wire.specs.Wire.{inUnits, within}
+use Rattle.wire.specs.Held.{AtMost}
 use Rattle.wire.proofs.Distance.{size}
 use Rattle.wire.proofs.Meaning.{by-value}
 

@@ -1,3 +1,4 @@
 pub mod Nearest
 pub mod Wire
 pub mod Meaning
+pub mod Held

@@ -1,6 +1,6 @@
 -- Document 02, item 5: "latitude and longitude in 10^-7 degree and height in millimetres, i32 each", written and read
 -- back. Definitions only.
-use Prim.Native.Nat.{ℕ, _*_, _≤_}
+use Prim.Native.Nat.{ℕ, _*_}
 use mathlib.Core.Bool.{Bool, true, false, cond, _&&_}
 use mathlib.Core.List.{List}
 use lib.Dec.{eqb}
@@ -35,12 +35,6 @@ unfolding nearest
 inUnits unit nan = pos 0
 inUnits unit (inf s) = pos 0
 inUnits unit (fin s m e) = nearest (signed s (m * up e * unit)) (down e)
-
--- x is a number of at most n in size
-abbrev pub AtMost : ℕ → Float → Type 0
-AtMost n nan = ⊥
-AtMost n (inf s) = ⊥
-AtMost n (fin s m e) = m * up e ≤ n * down e
 
 -- a not-a-number is within no limits
 abbrev pub within : Float → Float → Float → Bool

@@ -6,7 +6,8 @@ ghost use Prim.Native.Nat.{_*_, _/_, _%_, _^_, _<_};
 ghost use lib.IntN.{natAbs};
 ghost use lib.Ieee.{binary64, ofFields, toBits};
 ghost use Rattle.wire.specs.Nearest.{signed};
-ghost use Rattle.wire.specs.Wire.{perDegree, perMetre, inUnits, AtMost, within, between, writable, ofPosition};
+ghost use Rattle.wire.specs.Wire.{perDegree, perMetre, inUnits, within, between, writable, ofPosition};
+ghost use Rattle.wire.specs.Held.{AtMost};
 ghost use Rattle.wire.specs.Wire.{toWire, readable, back, fromWire};
 use geo::Geodetic;
 

@@ -1,7 +1,7 @@
 -- `asterix::read_asterix` meets its contract: each number from its bytes (`three`), and any other length is refused. Assumes nothing.
 use mathlib.Core.Path.{ap, _∙_}
 use Prim.Native.Nat.{_^_}
-use Rattle.asterix.specs.Items.{complement}
+use Rattle.asterix.specs.Held.{complement}
 use Rattle.asterix.proofs.Signs.{back}
 use Rattle.asterix.proofs.Arms.{three, not-ten}
 use borrow.Author.Needs.{needs}

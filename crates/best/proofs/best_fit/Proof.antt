@@ -3,8 +3,7 @@
 use borrow.Author.Needs.{needs}
 use mathlib.Core.Path.{refl, _∙_}
 use lib.ListN.{take}
-use Rattle.best.specs.Best.{pointsTo}
-use Rattle.best.specs.Held.{fitsOf}
+use Rattle.best.specs.Held.{fitsOf, pointsTo}
 use Rattle.best.proofs.Passes.{fits-front, fits-placed}
 use Rattle.best.proofs.Judging.{whitened-found, whitened-refused}
 use Rattle.best.proofs.best_fit.Statement.{statement}

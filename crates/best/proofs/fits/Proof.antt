@@ -7,11 +7,11 @@ use Prim.Native.Nat.{_≤_, _-_}
 use native.Mathlib.Omega.{arith}
 use lib.ListN.{set, replicate}
 use lib.Ieee.{Float}
-use Rattle.whitening.specs.Whitened.{chosen}
+use Rattle.whitening.specs.Held.{chosen}
 use Rattle.damped.specs.declared.Placed.{Placed}
 use Rattle.damped.specs.Damped.{levenbergMarquardt}
-use Rattle.damped.specs.Placed.{placed}
-use Rattle.best.specs.Best.{pointsTo}
+use Rattle.damped.specs.Held.{placed}
+use Rattle.best.specs.Held.{pointsTo}
 use Rattle.best.proofs.Passes.{fitsTo, fits-turn}
 use Rattle.best.proofs.fits.Statement.{statement}
 use Rattle.best.proofs.fits.Tie as tie

@@ -12,7 +12,8 @@ use Rattle.sets.specs.Mask.{has}
 use Rattle.problem.specs.Problem.{position}
 use Rattle.damped.specs.declared.Fit.{Fit}
 use Rattle.damped.specs.declared.Placed.{Placed}
-use Rattle.whitening.specs.Whitened.{Chosen, chosen}
+use Rattle.whitening.specs.Whitened.{Chosen}
+use Rattle.whitening.specs.Held.{chosen}
 use Rattle.best.specs.Best.{fitAt}
 use Rattle.best.specs.Held.{fitsOf, placedAt, asBestAt}
 use Rattle.best.proofs.Passes.{fit-front, place-at}

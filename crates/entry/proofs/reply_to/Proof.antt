@@ -11,7 +11,8 @@ use Rattle.inputs.specs.declared.Given.{Given}
 use Rattle.inputs.specs.declared.Check.the-variants.{Passed}
 use Rattle.inputs.specs.Inputs.{Inputs, inputsOf, checkInputs}
 use Rattle.inputs.proofs.Order.{few}
-use Rattle.rounds.specs.Solve.{solveProblem, asAnswer}
+use Rattle.rounds.specs.Solve.{solveProblem}
+use Rattle.rounds.specs.Held.{asAnswer}
 use Rattle.rounds.proofs.Runs.{of-problem}
 use Rattle.entry.specs.Reply.{reply}
 use Rattle.entry.proofs.Replies.{is-passed, many-away, came-whole, torn-or-whole, refused-reply, problem-reply}

@@ -1,4 +1,4 @@
--- `geo::from_ecef` meets its contract. The loop's invariant: after k rounds height and x are those of `roundsTo`, and lat is the arc tangent of z /
+-- `geo::from_ecef` meets its contract. The loop's invariant: after k rounds height and x are those of `bowringTo`, and lat is the arc tangent of z /
 -- x. Where a round hands x back, `settled` has the rounds that are left. Assumes nothing.
 use mathlib.Core.Path.{_≡_}
 use Prim.Native.Nat.{_-_, _≤_}
@@ -9,14 +9,14 @@ use lib.ListN.{getD}
 use lib.Ieee.{nan}
 use borrow.Author.Needs.{needs}
 use Rattle.libm.specs.Atan.{atan2}
-use Rattle.geo.specs.Geo.{roundsTo, fromEcef}
+use Rattle.geo.specs.Geo.{bowringTo, fromEcef}
 use Rattle.geo.proofs.Constants.{eccentricity}
 use Rattle.geo.proofs.Rounds.{all, settled}
 use Rattle.geo.proofs.from_ecef.Statement.{statement}
 use Rattle.geo.proofs.from_ecef.Tie as tie
 
 abbrev Inv-loop : tie.InvT-loop
-Inv-loop z lon p x₀ lat₀ height₀ k₀ x lat height k = (k ≤ 6) × (roundsTo p z k ≡ record { height = height; x = x }) × (lat ≡ atan2 z x)
+Inv-loop z lon p x₀ lat₀ height₀ k₀ x lat height k = (k ≤ 6) × (bowringTo p z k ≡ record { height = height; x = x }) × (lat ≡ atan2 z x)
 
 abbrev μ-loop : tie.MeasureT-loop
 μ-loop z lon p x₀ lat₀ height₀ k₀ x lat height k = 6 - k
@@ -46,7 +46,7 @@ atan2-requires-2 : tie.Need-atan2-requires-2 Inv-loop μ-loop
 atan2-requires-2 c κs = search needs
 
 loop-holds : tie.Need-loop-holds Inv-loop μ-loop
-unfolding roundsTo
+unfolding bowringTo
 loop-holds c = (search needs, rw eccentricity, c .atan22 .ensures)
 
 bowring-requires : tie.Need-bowring-requires Inv-loop μ-loop
@@ -65,7 +65,7 @@ loop-less : tie.Need-loop-less Inv-loop μ-loop
 loop-less c = search needs
 
 loop-again : tie.Need-loop-again Inv-loop μ-loop
-unfolding roundsTo
+unfolding bowringTo
 loop-again c =
     let turn = c .before .before .before in
     let inv = turn .before .before .loop .inv in
@@ -78,7 +78,7 @@ to-degrees-requires-2 : tie.Need-to-degrees-requires-2 Inv-loop μ-loop
 to-degrees-requires-2 c κs = search needs
 
 -- where the loop is left
-last : (c : tie.Left-loop Inv-loop μ-loop) → roundsTo (c .before .before .before .hypot .result)
+last : (c : tie.Left-loop Inv-loop μ-loop) → bowringTo (c .before .before .before .hypot .result)
     (getD (c .before .before .before .before .before .args .t1) 2 nan) 6 ≡ record { height = c .loop-test .height; x = c .before .loop .x }
 last c =
     let inv = c .before .loop .inv in

@@ -11,7 +11,7 @@ use lib.Ieee.{Float}
 use mir.Syntax.{w32}
 use mir.ValLaws.{toZ-ofZ}
 use Rattle.problem.specs.declared.Altitude.the-variants.{Barometric}
-use Rattle.inputs.specs.Inputs.{given, kindAt, correctionAt, metresAt, corrected, altitudeOf}
+use Rattle.inputs.specs.Inputs.{ifThere, kindAt, correctionAt, metresAt, corrected, altitudeOf}
 use Rattle.inputs.proofs.Steps.{sized-there}
 use Rattle.inputs.proofs.altitude_of.Statement.{statement}
 use Rattle.inputs.proofs.altitude_of.Tie as tie
@@ -22,7 +22,7 @@ whole c = let start = c .before .before in sized-there 16 (start .args .there) (
 
 barometric
     : (there : Bool) (a : List ℕ) {metres sum : Float} {kind : ℕ} {correction : ℤ} → there ≡ true → metres ≡ metresAt a → kind ≡ kindAt a → kind ≡ 1
-    → correction ≡ correctionAt a → sum ≡ corrected metres correction → Barometric sum ≡ altitudeOf (given there a)
+    → correction ≡ correctionAt a → sum ≡ corrected metres correction → Barometric sum ≡ altitudeOf (ifThere there a)
 barometric there a t m k one c s = rw (t, s, m, c, ← k, one)
 
 metres-at-requires : tie.Need-metres-at-requires

@@ -5,8 +5,8 @@ use mathlib.Core.Bool.{true}
 use borrow.Author.Tests.{not-true, not-false, le-leb, lt-leb}
 use Prim.Native.Nat.{ℕ}
 use Rattle.receptions.specs.declared.Reception.{Reception}
-use Rattle.receptions.specs.Receptions.{none}
-use Rattle.inputs.specs.Inputs.{Inputs, inputsOf, sized, whole}
+use Rattle.receptions.specs.Receptions.{noReception}
+use Rattle.inputs.specs.Inputs.{Inputs, inputsOf, sized, untorn}
 use Rattle.inputs.proofs.Order.{covered-by, torn-1, torn-2, torn-3, all-whole, torn, many, rest}
 use Rattle.inputs.proofs.check_inputs.Statement.{statement}
 use Rattle.inputs.proofs.check_inputs.Tie as tie
@@ -18,7 +18,7 @@ lent s at = inputsOf (s .args .whole) (s .args .n) at (s .args .g) (s .args .clo
 altitude-whole : (c : tie.Else2) (at : ℕ → Reception) → sized 16 (lent (c .before .before .before .before .before .before) at .altitude) ≡ true
 altitude-whole c at = sym (c .before .sized .ensures) ∙ not-false (c .before .sized .result) (c .if2 .left)
 
-came-whole : (c : tie.Else3) (at : ℕ → Reception) → whole (lent (c .before .before .before .before .before .before .before .before) at) ≡ true
+came-whole : (c : tie.Else3) (at : ℕ → Reception) → untorn (lent (c .before .before .before .before .before .before .before .before) at) ≡ true
 came-whole c at =
     let second = c .before .before in
     let first = second .before .before in
@@ -59,7 +59,7 @@ check-clock-requires c κs = search needs
 
 check-altitude-requires : tie.Need-check-altitude-requires
 check-altitude-requires c κs =
-    altitude-whole (c .before .before .before .before .before) (λ i. none)
+    altitude-whole (c .before .before .before .before .before) (λ i. noReception)
 
 unless-requires : tie.Need-unless-requires
 unless-requires c κs = search needs

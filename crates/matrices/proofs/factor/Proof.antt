@@ -11,7 +11,8 @@ use lib.Seq.{take-at}
 use lib.Ieee.{Float}
 use denote.Ref.{now}
 use Rattle.binary64.specs.Steps.{nought}
-use Rattle.dense.specs.Factor.{Factor, verdict}
+use Rattle.dense.specs.Factor.{Factor}
+use Rattle.dense.specs.Held.{verdict}
 use Rattle.dense.specs.Factor as factors
 use Rattle.dense.specs.Triangular.{blank}
 use Rattle.dense.proofs.Places.{room}

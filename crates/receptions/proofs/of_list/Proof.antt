@@ -51,7 +51,7 @@ use denote.Triple.Table.{entered, cited}
 use denote.Triple.Walked.{says, needs, Stays, stay-none, stay-none-slice, walkOf, goes-none, goes-none-slice, Walks, ends-at, walked, walk-meets}
 use denote.Triple.Clauses.{ensured, lasts}
 use denote.Exit.{yes}
-use Rattle.receptions.specs.Receptions.{none, listedAt, fieldsOf}
+use Rattle.receptions.specs.Receptions.{noReception, listedAt, fieldsOf}
 use Rattle.receptions.specs.declared.Reception.{Reception}
 use Rattle.receptions.specs.declared.Fields.{Fields}
 use Rattle.receptions.proofs.Unpacked.{Begins, begins-next, fields-same}
@@ -263,10 +263,10 @@ module _ {M : Type 1} (𝓤 : URA M) (H : Heap 𝓤) (A : Atoms 𝓤) (W : Given
           fsplit ! $ move ! (1 ∷ []) $ fsplit ! $ move ! (30 ∷ []) $ split ! $ move ! (3 ∷ 0 ∷ []) $
           looks-slice ! tt R (Is R) (shows 𝓤 H A R) vals (LL.tells T.the-type T′.the-laws) (LL.copy T.the-type T′.the-copy 𝓤 H A W) xs (s .ptr .0)
           (s .ptr .1) (λ q′.
-          elem-out ! R (Is R) (shows 𝓤 H A R) vals (LL.tells T.the-type T′.the-laws) q′ xs i none (s .ptr .0) (s .ptr .1) within (λ g.
+          elem-out ! R (Is R) (shows 𝓤 H A R) vals (LL.tells T.the-type T′.the-laws) q′ xs i noReception (s .ptr .0) (s .ptr .1) within (λ g.
           -- [element i; what it owns; the others; what shuts; the fractured borrow; true; two facts; what the list owns; _12; …; _0; …; the count]
           assigns ! (of-opd ! (load ! (from ! (hop ! (look ! 17 refl) (stop !))) (look-raw ! 0 refl))) (from ! (stop !)) (init ! 15 refl (typed g)) $
-          elem-back ! R q′ xs i none (u ∷ []) (s .ptr .0) (s .ptr .1) within $ shuts-slice ! tt R q′ xs (s .ptr .0) (s .ptr .1)
+          elem-back ! R q′ xs i noReception (u ∷ []) (s .ptr .0) (s .ptr .1) within $ shuts-slice ! tt R q′ xs (s .ptr .0) (s .ptr .1)
           $ move ! (0 ∷ 2 ∷ []) $ join ! $
           -- [the token; the fractured borrow; two facts; what the list owns; _12; …]
           assigns ! (bin ! (load ! (from ! (stop !)) (look ! 21 refl)) (lit ! tt) scaled) (from ! (stop !)) (init ! 9 refl (tt, scaled)) $
@@ -274,7 +274,7 @@ module _ {M : Type 1} (𝓤 : URA M) (H : Heap 𝓤) (A : Atoms 𝓤) (W : Given
           assigns ! (bin ! (load ! (from ! (stop !)) (look ! 7 refl)) (load ! (from ! (stop !)) (look ! 9 refl)) tt) (from ! (stop !))
           (init ! 5 refl (tt, tt)) $
           rewrite ! 5 (λ (p : ℕ). ‵ (fat fullShare tyPtr l₁₂ 0 (vptr l₃ p))) (sym (place-is size 0 i)) refl $
-          move ! (23 ∷ []) $ elem-out ! R (Is R) (shows 𝓤 H A R) vals (LL.tells T.the-type T′.the-laws) fullShare ys i none l₃ 0 below (λ _.
+          move ! (23 ∷ []) $ elem-out ! R (Is R) (shows 𝓤 H A R) vals (LL.tells T.the-type T′.the-laws) fullShare ys i noReception l₃ 0 below (λ _.
           -- [the local list's element i; what it owns; the others; the token; the fractured borrow; two facts; what the list owns; _12; …]
           assigns ! (of-opd ! (load ! (from ! (stop !)) (look ! 14 refl))) (from ! (hop ! (look ! 8 refl) (stop !))) (store-raw ! 0 refl (typed g)) $
           move ! (1 ∷ []) $ drop ! $ owned ! R (Is R) (LL.makes T.the-type T′.the-plain 𝓤 H A) (listedAt xs i) _ g $ move ! (1 ∷ 0 ∷ [])

@@ -9,9 +9,11 @@ use mir.Syntax.{w64}
 use mir.ValLaws.{toZ-ofZ}
 use Rattle.sets.specs.Mask.{has}
 use Rattle.sets.proofs.Counting.{count-le}
-use Rattle.best.specs.OfProblem.{Receptions, receptions}
+use Rattle.best.specs.OfProblem.{Receptions}
+use Rattle.best.specs.Held.{receptions}
 use Rattle.rounds.specs.declared.fitting.State.{State}
-use Rattle.rounds.specs.Solve.{later, asAnswer}
+use Rattle.rounds.specs.Solve.{later}
+use Rattle.rounds.specs.Held.{asAnswer}
 use Rattle.rounds.proofs.Runs.{Left, left-start, left-ends, left-settles, left-changes, left-never}
 use Rattle.rounds.proofs.outlier_rounds.Statement.{statement}
 use Rattle.rounds.proofs.outlier_rounds.Tie as tie

@@ -4,7 +4,7 @@ use mathlib.Core.Path.{refl, ap, _∙_}
 use mir.Syntax.{w64}
 use mir.Val.{toZ, ofZ}
 use mir.ValLaws.{toZ-ofZ}
-use Rattle.rounds.specs.Solve.{asAnswer}
+use Rattle.rounds.specs.Held.{asAnswer}
 use Rattle.rounds.proofs.Runs.{of-problem}
 use Rattle.rounds.proofs.solve_problem.Statement.{statement}
 use Rattle.rounds.proofs.solve_problem.Tie as tie

@@ -5,7 +5,7 @@ use native.Mathlib.Omega.{arith}
 use lib.ListN.{length}
 use borrow.Author.Needs.{needs}
 use Rattle.screen.specs.Pair.{fails}
-use Rattle.screen.specs.Screen.{pairsOf}
+use Rattle.screen.specs.Held.{pairsOf}
 use Rattle.screen.proofs.Rows.{marked-none}
 use Rattle.screen.proofs.failing.Statement.{statement}
 use Rattle.screen.proofs.failing.Tie as tie

@@ -2,7 +2,7 @@
 use mathlib.Core.Path.{_∙_}
 use borrow.Author.Needs.{needs}
 use Rattle.sets.specs.Sets.{first}
-use Rattle.screen.specs.Screen.{pairsOf}
+use Rattle.screen.specs.Held.{pairsOf}
 use Rattle.screen.specs.Meaning.{done}
 use Rattle.screen.proofs.Removal.{only-kept-is-left}
 use Rattle.screen.proofs.kept.Statement.{statement}

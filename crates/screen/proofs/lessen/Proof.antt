@@ -4,7 +4,7 @@ use Prim.Native.Nat.{ℕ, _-_, _≤_}
 use native.Mathlib.Omega.{arith}
 use lib.ListN.{length, length-set}
 use borrow.Author.Needs.{needs}
-use Rattle.screen.specs.Screen.{pairsOf}
+use Rattle.screen.specs.Held.{pairsOf}
 use Rattle.screen.proofs.Numbers.{Fewer, fewer-start, fewer-next, fewer-end}
 use Rattle.screen.proofs.lessen.Statement.{statement}
 use Rattle.screen.proofs.lessen.Tie as tie

@@ -6,9 +6,9 @@ use native.Mathlib.Numerals.{add-one}
 use native.Mathlib.Omega.{arith}
 use lib.ListN.{length, length-set}
 use borrow.Author.Needs.{needs}
-use Rattle.sets.specs.Choice.{indexOf}
-use Rattle.screen.specs.Screen.{pairsOf}
-use Rattle.screen.specs.State.{numbersOf, heldBy, mostClashing, heldTo}
+use Rattle.sets.specs.Held.{indexOf}
+use Rattle.screen.specs.Held.{pairsOf, numbersOf, heldBy}
+use Rattle.screen.specs.State.{mostClashing, heldTo}
 use Rattle.screen.proofs.Rows.{zeros}
 use Rattle.screen.proofs.Search.{held-alive, none-goes, leaving}
 use Rattle.screen.proofs.Recorded.{Recorded, recorded-start, recorded-next, recorded-end}

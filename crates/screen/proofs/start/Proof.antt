@@ -4,7 +4,7 @@ use Prim.Native.Nat.{_-_, _≤_}
 use native.Mathlib.Omega.{arith}
 use lib.ListN.{length, length-set}
 use borrow.Author.Needs.{needs}
-use Rattle.screen.specs.Screen.{pairsOf}
+use Rattle.screen.specs.Held.{pairsOf}
 use Rattle.screen.specs.State.{start}
 use Rattle.screen.proofs.Numbers.{Filled, filled-start, filled-next, first-count, start-held}
 use Rattle.screen.proofs.start.Statement.{statement}

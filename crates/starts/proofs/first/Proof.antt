@@ -1,6 +1,6 @@
 -- `starts::first` meets its contract: the flag decides, as in the definition. Assumes nothing.
 use borrow.Author.Needs.{needs}
-use Rattle.starts.specs.Points.{push, packed}
+use Rattle.starts.specs.Held.{push, packed}
 use Rattle.starts.proofs.first.Statement.{statement}
 use Rattle.starts.proofs.first.Tie as tie
 

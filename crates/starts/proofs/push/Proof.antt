@@ -1,7 +1,7 @@
 -- `starts::push` meets its contract: there is room, and the four stores are those of the definition, or there is none. Assumes nothing.
 use borrow.Author.Needs.{needs}
 use borrow.Author.Tests.{lt-ltb, le-ltb}
-use Rattle.starts.specs.Points.{push}
+use Rattle.starts.specs.Held.{push}
 use Rattle.starts.proofs.push.Statement.{statement}
 use Rattle.starts.proofs.push.Tie as tie
 

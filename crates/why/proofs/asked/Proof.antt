@@ -3,7 +3,7 @@ use borrow.Author.Needs.{needs}
 use mathlib.Core.Path.{_≡_, sym, ap, _∙_}
 use Prim.Native.Nat.{ℕ}
 use Rattle.receptions.specs.declared.Reception.{Reception}
-use Rattle.receptions.specs.Receptions.{Holds}
+use Rattle.receptions.specs.Held.{Holds}
 use Rattle.inputs.specs.declared.Given.{Given}
 use Rattle.inputs.specs.declared.Check.the-variants.{Passed}
 use Rattle.inputs.specs.Inputs.{Inputs, inputsOf, checkInputs, problemOf}

@@ -4,7 +4,8 @@ use Prim.Native.Nat.{_-_, _≤_}
 use mathlib.Core.Path.{_≡_, refl, ap, _∙_}
 use native.Mathlib.Omega.{arith}
 use lib.ListN.{length}
-use Rattle.why.specs.States.{stateIn, statesTo}
+use Rattle.why.specs.States.{statesTo}
+use Rattle.why.specs.Held.{stateIn}
 use Rattle.why.proofs.Writing.{states-length, states-next}
 use Rattle.why.proofs.put_states.Statement.{statement}
 use Rattle.why.proofs.put_states.Tie as tie

@@ -3,7 +3,7 @@
 use Prim.Native.Nat.{_-_, _*_, _^_, _≤_, _<_}
 use native.Mathlib.Omega.{arith}
 use borrow.Author.Needs.{needs}
-use Rattle.wide.specs.Wide.{valueOf}
+use Rattle.wide.specs.Held.{valueOf}
 use Rattle.wide.proofs.Words.{within, above}
 use Rattle.wide.proofs.Floor.{floored-unique, root-fits}
 use Rattle.wide.proofs.isqrt.Statement.{statement}

@@ -5,7 +5,7 @@ use Prim.Native.Nat.{ℕ, _+_, _-_, _*_, _/_, _^_, _≤_, _<_}
 use native.Mathlib.Nat.{le-div-iff-mul-le, div-lt-iff-lt-mul}
 use native.Mathlib.Omega.{arith}
 use lib.Pow.{pow-pos}
-use Rattle.binary64.specs.Root.{Nearest}
+use Rattle.binary64.specs.Held.{Nearest}
 use Rattle.binary64.proofs.square_root.bisect.Statement.{statement}
 use Rattle.binary64.proofs.square_root.bisect.Tie as tie
 

@@ -5,7 +5,7 @@ use Prim.Native.Nat.{_-_, _≤_}
 use native.Mathlib.Numerals.{add-one}
 use native.Mathlib.Omega.{arith}
 use borrow.Author.Needs.{needs}
-use Rattle.binary64.specs.Root.{rootsTo}
+use Rattle.binary64.specs.Held.{rootsTo}
 use Rattle.binary64.proofs.square_root.each.Statement.{statement}
 use Rattle.binary64.proofs.square_root.each.Tie as tie
 

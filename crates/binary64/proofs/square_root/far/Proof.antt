@@ -7,7 +7,7 @@ use native.Mathlib.Omega.{arith}
 use lib.Pow.{pow-pos}
 use lib.Bits.{bitAnd, bitOr}
 use borrow.Author.Needs.{needs}
-use Rattle.binary64.specs.Root.{Nearest}
+use Rattle.binary64.specs.Held.{Nearest}
 use Rattle.binary64.proofs.Fold.{small, fold-law}
 use Rattle.binary64.proofs.BitTests.{or-le}
 use Rattle.binary64.proofs.square_root.far.Statement.{statement}

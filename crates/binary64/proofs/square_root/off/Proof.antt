@@ -6,7 +6,8 @@ use native.Mathlib.Omega.{arith}
 use lib.Bits.{and-mask, mask-lt}
 use lib.Ieee.{binary64, ofBits}
 use borrow.Author.Needs.{needs}
-use Rattle.binary64.specs.Root.{root, Nearest}
+use Rattle.binary64.specs.Root.{root}
+use Rattle.binary64.specs.Held.{Nearest}
 use Rattle.binary64.proofs.Shift.{range, doubled}
 use Rattle.binary64.proofs.BitTests.{or-none, xor-none}
 use Rattle.binary64.proofs.RootBits.{digitsOf, digits-range, root-bits-are}

@@ -4,7 +4,7 @@ use mathlib.Core.Path.{_≡_, subst}
 use Prim.Native.Nat.{ℕ, _*_, _%_, _^_, _≤_, _<_}
 use native.Mathlib.Omega.{arith}
 use borrow.Author.Needs.{needs}
-use Rattle.binary64.specs.Root.{Nearest}
+use Rattle.binary64.specs.Held.{Nearest}
 use Rattle.binary64.proofs.Shift.{shifted, range}
 use Rattle.binary64.proofs.RootBits.{bounds, result}
 use Rattle.binary64.proofs.square_root.root_of.Statement.{statement}

@@ -11,8 +11,8 @@ damped-requires c κs = search needs
 descent-requires : tie.Need-descent-requires
 descent-requires c κs = search needs
 
-moved-requires : tie.Need-moved-requires
-moved-requires c κs = search needs
+candidate-requires : tie.Need-candidate-requires
+candidate-requires c κs = search needs
 
 tried-requires : tie.Need-tried-requires
 tried-requires c κs =
@@ -26,7 +26,7 @@ returns c =
         ← made .before .before .before .before .before .damped .ensures,
         ← made .before .before .before .descent .ensures,
         made .before .before .if1 .taken,
-        ← made .moved .ensures,
+        ← made .candidate .ensures,
         c .tried .ensures .0,
       ),
       c .tried .ensures .1,
@@ -45,7 +45,7 @@ step-spec =
     (tie.spec
     damped-requires
     descent-requires
-    moved-requires
+    candidate-requires
     tried-requires
     returns
     returns-2)

@@ -1,7 +1,7 @@
 -- `damped::fitting::levenberg_marquardt` meets its contract. It is what `refined` gives, beside its place. Assumes nothing.
 use borrow.Author.Needs.{needs}
 use mathlib.Core.Path.{refl, ap, _∙_}
-use Rattle.damped.specs.Placed.{placed}
+use Rattle.damped.specs.Held.{placed}
 use Rattle.damped.proofs.fitting.levenberg_marquardt.Statement.{statement}
 use Rattle.damped.proofs.fitting.levenberg_marquardt.Tie as tie
 

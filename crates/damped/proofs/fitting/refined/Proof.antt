@@ -1,7 +1,7 @@
 -- `damped::fitting::refined` meets its contract. It is the run from the state at the start (`begun`). Assumes nothing.
 use borrow.Author.Needs.{needs}
 use mathlib.Core.Path.{sym, ap, _∙_}
-use Rattle.whitening.specs.Whitened.{placeOf}
+use Rattle.whitening.specs.Held.{rowPlace}
 use Rattle.damped.specs.declared.Lm.{Lm}
 use Rattle.damped.proofs.Turns.{begun}
 use Rattle.damped.proofs.fitting.refined.Statement.{statement}
@@ -17,7 +17,7 @@ run-requires : tie.Need-run-requires
 run-requires c κs =
     let made = c .before .before .before .before .before .before .before in
     let s = made .before .before .before .before .before .before .before .before .before in
-    let there = s .pre .0 .1 ∙ ap (λ (x : Lm). placeOf (s .args .altitude) (x .params)) (sym (made .started .ensures)) in
+    let there = s .pre .0 .1 ∙ ap (λ (x : Lm). rowPlace (s .args .altitude) (x .params)) (sym (made .started .ensures)) in
     ((s .pre .0 .0, there), made .before .evaluated .ensures .1)
 
 returns : tie.Need-returns

@@ -5,8 +5,7 @@ use mathlib.Core.Path.{_≡_, refl, _∙_}
 use mathlib.Core.Logic.{⊎-elim}
 use Prim.Native.Nat.{_≤_, _-_}
 use native.Mathlib.Omega.{arith}
-use Rattle.whitening.specs.Whitened.{chosen, placeOf}
-use Rattle.whitening.specs.Held.{Scratch}
+use Rattle.whitening.specs.Held.{Scratch, rowPlace, chosen}
 use Rattle.damped.specs.declared.Verdict.the-variants.{Accepted, Converged, Rejected, Stopped, Failed}
 use Rattle.damped.specs.Damped.{run}
 use Rattle.damped.proofs.Turns.{turn, ended}
@@ -17,7 +16,7 @@ use Rattle.damped.proofs.fitting.run.Tie as tie
 abbrev Inv-loop : tie.InvT-loop
 Inv-loop sites z k l altitude r₀ squared₀ ranges₀ a₀ b₀ c₀ d₀ state₀ at₀ n₀ r squared ranges a b c d state at n =
     let P = chosen k sites z l altitude in
-    (n ≤ 50) × (run P (50 - n) state ≡ run P 50 state₀) × (at ≡ placeOf altitude (state .params))
+    (n ≤ 50) × (run P (50 - n) state ≡ run P 50 state₀) × (at ≡ rowPlace altitude (state .params))
     × Scratch r squared ranges a b c d
 
 abbrev μ-loop : tie.MeasureT-loop

@@ -7,7 +7,7 @@ use borrow.Author.Needs.{needs}
 use lib.Ieee.{Float}
 use Rattle.binary64.specs.Steps.{#}
 use Rattle.binary64.proofs.Patterns.{number, back}
-use Rattle.geo.specs.NearOne.{BelowOne}
+use Rattle.geo.specs.Held.{BelowOne}
 use Rattle.geo.proofs.curvature.below_one.Statement.{statement}
 use Rattle.geo.proofs.curvature.below_one.Tie as tie
 

@@ -44,7 +44,8 @@ use denote.Triple.Table.{entered, cited}
 use denote.Triple.Walked.{says, Stays, stay-dropped, gave-slice, walkOf, goes-dropped, goes-gave-slice, Walks, ends-at, walked, walk-meets}
 use denote.Triple.Clauses.{Lasts, ensured, lasts}
 use denote.Exit.{yes}
-use Rattle.receptions.specs.Receptions.{listedAt, fieldsOf, Holds, Filled}
+use Rattle.receptions.specs.Receptions.{listedAt, fieldsOf}
+use Rattle.receptions.specs.Held.{Holds, Filled}
 use Rattle.receptions.specs.declared.Reception.{Reception}
 use Rattle.receptions.specs.declared.Fields.{Fields}
 use Rattle.inputs.specs.Inputs.{Inputs, inputsOf}

@@ -9,7 +9,7 @@ use Rattle.rounds.specs.declared.answer.Refusal.{Refusal}
 use Rattle.rounds.specs.declared.finish.Unpublished.{Unpublished}
 use Rattle.rounds.specs.Setting.{refused}
 use Rattle.rounds.specs.Rounds.{closed}
-use Rattle.rounds.specs.Solve.{asAnswer}
+use Rattle.rounds.specs.Held.{asAnswer}
 use Rattle.rounds.proofs.Finished.{read-back}
 use Rattle.rounds.proofs.answer.of_finished.Statement.{statement}
 use Rattle.rounds.proofs.answer.of_finished.Tie as tie

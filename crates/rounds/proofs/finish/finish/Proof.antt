@@ -3,8 +3,9 @@ use borrow.Author.Needs.{needs}
 use mathlib.Core.Path.{sym, ap, _∙_}
 use mir.Syntax.{w64}
 use mir.ValLaws.{toZ-ofZ}
-use Rattle.problem.specs.Problem.{moment}
-use Rattle.rounds.specs.Finish.{transmitPs, asFinished}
+use Rattle.problem.specs.Problem.{transmitM}
+use Rattle.rounds.specs.Finish.{transmitPs}
+use Rattle.rounds.specs.Held.{asFinished}
 use Rattle.rounds.proofs.Moments.{moment-read}
 use Rattle.rounds.proofs.Finished.{singular, uncertain, out-of-range, gives-fix}
 use Rattle.rounds.proofs.finish.finish.Statement.{statement}
@@ -40,7 +41,7 @@ returns c =
     (c .before .before .before .transmit .result)
     (rw (toZ-ofZ w64 (s .args .reference-ps) (s .fits .reference-ps)) at (c .before .before .before .transmit .ensures))
     (c .before .before .if3 .taken) (c .fix-of .result)
-    (rw (moment-read (transmitPs (s .args .reference-ps) (moment (s .args .fit .params))) (c .before .before .before .transmit .result)
+    (rw (moment-read (transmitPs (s .args .reference-ps) (transmitM (s .args .fit .params))) (c .before .before .before .transmit .result)
     (rw (toZ-ofZ w64 (s .args .reference-ps) (s .fits .reference-ps)) at (c .before .before .before .transmit .ensures))
     (c .before .before .if3 .taken)) at (c .fix-of .ensures)))
 

@@ -3,7 +3,8 @@
 use borrow.Author.Needs.{needs}
 use mathlib.Core.Path.{_∙_}
 use Rattle.sets.specs.Mask.{has}
-use Rattle.best.specs.OfProblem.{Receptions, receptions}
+use Rattle.best.specs.OfProblem.{Receptions}
+use Rattle.best.specs.Held.{receptions}
 use Rattle.rounds.proofs.Gathering.{subset-fits}
 use Rattle.rounds.proofs.Points.{starts-few, held-is}
 use Rattle.rounds.proofs.fitting.fit_included.Statement.{statement}

@@ -8,7 +8,7 @@ use lib.Ieee.{ofBits, neg, toUnsigned}
 use mir.Syntax.{w64}
 use mir.Val.{toZ, ofZ}
 use mir.ValLaws.{toZ-ofZ}
-use Rattle.rounds.specs.Finish.{beyond}
+use Rattle.rounds.specs.Held.{beyond}
 use Rattle.rounds.proofs.Moments.{cast-nan, cast-up, cast-high, turned, cast-down, cast-low, far-later, far-earlier, by-cast}
 use Rattle.rounds.proofs.moment.transmit.Statement.{statement}
 use Rattle.rounds.proofs.moment.transmit.Tie as tie

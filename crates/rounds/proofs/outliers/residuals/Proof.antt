@@ -10,14 +10,14 @@ use lib.Ieee.{Float}
 use Rattle.binary64.specs.Steps.{nought}
 use Rattle.problem.specs.declared.Altitude.{Altitude}
 use Rattle.whitening.specs.Whitened.{fillTo}
-use Rattle.best.specs.OfProblem.{receptions}
+use Rattle.best.specs.Held.{receptions}
 use Rattle.rounds.specs.Solve.{normalised}
 use Rattle.rounds.proofs.outliers.residuals.Statement.{statement}
 use Rattle.rounds.proofs.outliers.residuals.Tie as tie
 
 abbrev Inv-loop : tie.InvT-loop
 Inv-loop site z noise clock n params out₀ i₀ out i = (i ≤ n)
-    × ((altitude : Altitude) → out ≡ fillTo (normalised (receptions site z noise clock n altitude) params) (replicate 32 nought) i)
+    × ((altitude : Altitude) → out ≡ fillTo (replicate 32 nought) (normalised (receptions site z noise clock n altitude) params) i)
 
 abbrev μ-loop : tie.MeasureT-loop
 μ-loop site z noise clock n params out₀ i₀ out i = n - i

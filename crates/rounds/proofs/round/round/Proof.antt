@@ -12,13 +12,13 @@ use Rattle.dense.specs.Entries.{nth}
 use Rattle.sets.specs.Mask.{has}
 use Rattle.whitening.proofs.Costs.{fill-at}
 use Rattle.best.specs.declared.BestAt.{BestAt}
-use Rattle.best.specs.Held.{arrayOf}
-use Rattle.best.specs.OfProblem.{Receptions, receptions, whitenerOver, chosenOver, bestFitOver}
+use Rattle.best.specs.Held.{arrayOf, receptions}
+use Rattle.best.specs.OfProblem.{Receptions, whitenerOver, chosenOver, bestFitOver}
 use Rattle.rounds.specs.declared.answer.Refusal.{Refusal}
 use Rattle.rounds.specs.declared.outliers.Turn.the-variants.{Ends, Changes, Settles}
 use Rattle.rounds.specs.declared.round.Step.{Step}
 use Rattle.rounds.specs.Rounds.{ends}
-use Rattle.rounds.specs.Solve.{before, stepOf}
+use Rattle.rounds.specs.Held.{previousOf, stepOf}
 use Rattle.rounds.proofs.Turns.{best-place, best-norm, round-few, round-unfit, round-fitted}
 use Rattle.rounds.proofs.round.round.Statement.{statement}
 use Rattle.rounds.proofs.round.round.Tie as tie
@@ -49,7 +49,8 @@ returns c =
     let n = c .before .before .before .count in (
       (
         λ reference. ap (λ (x : Step). stepOf (x .turn) (x .fit)) (c .ended .ensures)
-            ∙ round-few (heard s) (s .args .kept) reference (s .pre .0) (s .args .state .included) (s .pre .1) (before (s .args .state)) (n .result)
+            ∙ round-few (heard s) (s .args .kept) reference (s .pre .0) (s .args .state .included) (s .pre .1) (previousOf (s .args .state))
+            (n .result)
             (n .ensures) (rw (c .before .before .minimum .ensures) at (c .before .if1 .taken)),
         λ m q. absurd (no-change _ m (ap (λ (x : Step). x .turn) (sym (c .ended .ensures)) ∙ q)),
       ),
@@ -73,7 +74,7 @@ returns-2 c =
     let left = c .before .before .before .residuals in
     let S = has (s .args .state .included) in (
       (
-        λ reference. round-fitted (heard s) (s .args .kept) reference (s .pre .0) (s .args .state .included) (s .pre .1) (before (s .args .state))
+        λ reference. round-fitted (heard s) (s .args .kept) reference (s .pre .0) (s .args .state .included) (s .pre .1) (previousOf (s .args .state))
             (n .result) (n .ensures) (rw (c .before .before .before .before .before .before .before .before .before .before .minimum .ensures) at
             (c .before .before .before .before .before .before .before .before .before .if1 .left)) (at .result .best)
             (ap (λ (x : BestAt). x .best) (at .ensures)) (c .before .before .before .before .before .before .if2 .taken) (left .result)
@@ -83,9 +84,9 @@ returns-2 c =
         c .before .decided .ensures .1,
       ),
       λ q. (
-        best-place (chosenOver (heard s) S (arrayOf (whitenerOver (heard s) S))) (bestFitOver (heard s) S (before (s .args .state))) (at .result)
+        best-place (chosenOver (heard s) S (arrayOf (whitenerOver (heard s) S))) (bestFitOver (heard s) S (previousOf (s .args .state))) (at .result)
             (at .ensures) (c .before .before .before .before .before .before .if2 .taken),
-        best-norm (heard s) S (before (s .args .state)) (s .pre .0) (at .result) (at .ensures)
+        best-norm (heard s) S (previousOf (s .args .state)) (s .pre .0) (at .result) (at .ensures)
             (c .before .before .before .before .before .before .if2 .taken),
       ),
     )
@@ -103,7 +104,8 @@ returns-3 c =
     let at = c .before .before .before .before .fit-included in (
       (
         λ reference. ap (λ (x : Step). stepOf (x .turn) (x .fit)) (c .ended2 .ensures) ∙ ap ends (c .before .of-unfit .ensures)
-            ∙ round-unfit (heard s) (s .args .kept) reference (s .pre .0) (s .args .state .included) (s .pre .1) (before (s .args .state)) (n .result)
+            ∙ round-unfit (heard s) (s .args .kept) reference (s .pre .0) (s .args .state .included) (s .pre .1) (previousOf (s .args .state))
+            (n .result)
             (n .ensures) (rw (c .before .before .before .before .before .before .minimum .ensures) at
             (c .before .before .before .before .before .if1 .left)) (at .result .best) (ap (λ (x : BestAt). x .best) (at .ensures))
             (c .before .before .if2 .left),

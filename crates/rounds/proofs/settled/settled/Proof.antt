@@ -8,7 +8,7 @@ use Rattle.sets.specs.Sets.{count}
 use Rattle.sets.specs.Mask.{has}
 use Rattle.problem.specs.declared.Altitude.{Altitude}
 use Rattle.limits.specs.Limits.{dof}
-use Rattle.rounds.specs.Finish.{asFinished}
+use Rattle.rounds.specs.Held.{asFinished}
 use Rattle.rounds.specs.Solve.{hasAltitude}
 use Rattle.rounds.proofs.Late.{late-inconsistent, late-finish}
 use Rattle.rounds.proofs.settled.settled.Statement.{statement}

@@ -1,6 +1,6 @@
 -- `starts::bancroft::with_bancroft` meets its contract: where a pivot is refused there is no root. Assumes nothing.
 use borrow.Author.Needs.{needs}
-use Rattle.starts.specs.Points.{packed}
+use Rattle.starts.specs.Held.{packed}
 use Rattle.starts.specs.Bancroft.{bancroft}
 use Rattle.starts.proofs.bancroft.with_bancroft.Statement.{statement}
 use Rattle.starts.proofs.bancroft.with_bancroft.Tie as tie

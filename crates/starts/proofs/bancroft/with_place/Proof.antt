@@ -1,6 +1,6 @@
 -- `starts::bancroft::with_place` meets its contract: what is not finite is left out. Assumes nothing.
 use borrow.Author.Needs.{needs}
-use Rattle.starts.specs.Points.{packed}
+use Rattle.starts.specs.Held.{packed}
 use Rattle.starts.specs.Bancroft.{places}
 use Rattle.starts.proofs.bancroft.with_place.Statement.{statement}
 use Rattle.starts.proofs.bancroft.with_place.Tie as tie

@@ -5,7 +5,7 @@ use mathlib.Core.Path.{_≡_, refl}
 use Prim.Native.Nat.{_≤_, _-_}
 use native.Mathlib.Numerals.{add-one}
 use native.Mathlib.Omega.{arith}
-use Rattle.starts.specs.Points.{packed}
+use Rattle.starts.specs.Held.{packed}
 use Rattle.starts.specs.Lifted.{circleTo}
 use Rattle.starts.proofs.Packed.{circle-more}
 use Rattle.starts.proofs.lifted.with_circle.Statement.{statement}

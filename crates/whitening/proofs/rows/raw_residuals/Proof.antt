@@ -14,7 +14,7 @@ use Rattle.whitening.proofs.rows.raw_residuals.Statement.{statement}
 use Rattle.whitening.proofs.rows.raw_residuals.Tie as tie
 
 abbrev Inv-loop : tie.InvT-loop
-Inv-loop sites z k r₀ squared ranges p i₀ r i = (i ≤ k) × (r ≡ fillTo (raw sites z p 0) r₀ i)
+Inv-loop sites z k r₀ squared ranges p i₀ r i = (i ≤ k) × (r ≡ fillTo r₀ (raw sites z p 0) i)
 
 abbrev μ-loop : tie.MeasureT-loop
 μ-loop sites z k r₀ squared ranges p i₀ r i = k - i

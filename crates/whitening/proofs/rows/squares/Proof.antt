@@ -4,7 +4,7 @@ use mathlib.Core.Path.{_≡_, refl}
 use Prim.Native.Nat.{_≤_, _-_}
 use native.Mathlib.Numerals.{add-one}
 use native.Mathlib.Omega.{arith}
-use Rattle.whitening.specs.Normal.{costTo}
+use Rattle.whitening.specs.Held.{costTo}
 use Rattle.whitening.proofs.rows.squares.Statement.{statement}
 use Rattle.whitening.proofs.rows.squares.Tie as tie
 

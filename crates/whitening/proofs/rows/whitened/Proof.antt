@@ -4,7 +4,7 @@ use mathlib.Core.Path.{refl, ap}
 use native.Mathlib.Omega.{arith}
 use denote.Ref.{now}
 use lib.ListN.{length}
-use Rattle.whitening.specs.Whitened.{chosen}
+use Rattle.whitening.specs.Held.{chosen}
 use Rattle.whitening.proofs.Joined.{residuals-over, whitened-joined}
 use Rattle.whitening.proofs.rows.whitened.Statement.{statement}
 use Rattle.whitening.proofs.rows.whitened.Tie as tie

@@ -12,8 +12,8 @@ use Rattle.whitening.proofs.slopes.raw_slopes.Statement.{statement}
 use Rattle.whitening.proofs.slopes.raw_slopes.Tie as tie
 
 abbrev Inv-loop : tie.InvT-loop
-Inv-loop sites k p ranges a₀ b₀ c₀ d₀ i₀ a b c d i = (i ≤ k) × (a ≡ fillTo (slopeAt sites p 0) a₀ i) × (b ≡ fillTo (slopeAt sites p 1) b₀ i)
-    × (c ≡ fillTo (slopeAt sites p 2) c₀ i) × (d ≡ fillTo (λ i. neg one) d₀ i)
+Inv-loop sites k p ranges a₀ b₀ c₀ d₀ i₀ a b c d i = (i ≤ k) × (a ≡ fillTo a₀ (slopeAt sites p 0) i) × (b ≡ fillTo b₀ (slopeAt sites p 1) i)
+    × (c ≡ fillTo c₀ (slopeAt sites p 2) i) × (d ≡ fillTo d₀ (λ i. neg one) i)
 
 abbrev μ-loop : tie.MeasureT-loop
 μ-loop sites k p ranges a₀ b₀ c₀ d₀ i₀ a b c d i = k - i

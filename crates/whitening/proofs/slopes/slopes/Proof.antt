@@ -1,7 +1,7 @@
 -- `whitening::slopes::slopes` meets its contract. The promises of `raw_slopes`, `forward4` and `push_up`, joined (`slopes-joined`). Assumes nothing.
 use borrow.Author.Needs.{needs}
 use denote.Ref.{now}
-use Rattle.whitening.specs.Whitened.{chosen}
+use Rattle.whitening.specs.Held.{chosen}
 use Rattle.whitening.proofs.Joined.{slopes-joined}
 use Rattle.whitening.proofs.slopes.slopes.Statement.{statement}
 use Rattle.whitening.proofs.slopes.slopes.Tie as tie

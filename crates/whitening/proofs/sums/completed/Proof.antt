@@ -4,7 +4,8 @@ use borrow.Author.Needs.{needs}
 use mathlib.Core.List.{List, []}
 use denote.Ref.{now}
 use lib.Ieee.{Float}
-use Rattle.whitening.specs.Whitened.{Chosen, chosen, rows, blank}
+use Rattle.whitening.specs.Whitened.{Chosen, rows, noRows}
+use Rattle.whitening.specs.Held.{chosen}
 use Rattle.whitening.proofs.Joined.{slopes-beside}
 use Rattle.whitening.proofs.Over.{slopes-room}
 use Rattle.whitening.proofs.sums.completed.Statement.{statement}
@@ -27,7 +28,7 @@ returns c =
     let d = now (s .args .d) in
     let found = c .before .before .before .before .before .slopes .ensures .1 in (
       λ z. slopes-beside (P z) (s .args .p) (s .pre .0 .0) _ _ r a b c₀ d (s .pre .1) (c .normal .ensures) (found z r),
-      slopes-room (P []) (s .args .p) (rows (s .args .k) blank a b c₀ d) (s .pre .0 .0) (s .pre .1) (found [] r),
+      slopes-room (P []) (s .args .p) (rows (s .args .k) noRows a b c₀ d) (s .pre .0 .0) (s .pre .1) (found [] r),
     )
 
 pub completed-spec : {M : Type 1} → statement M

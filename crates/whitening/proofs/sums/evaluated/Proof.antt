@@ -3,7 +3,7 @@
 use borrow.Author.Needs.{needs}
 use native.Mathlib.Omega.{arith}
 use denote.Ref.{now}
-use Rattle.whitening.specs.Whitened.{chosen}
+use Rattle.whitening.specs.Held.{chosen}
 use Rattle.whitening.proofs.Joined.{residuals-joined, completes}
 use Rattle.whitening.proofs.Over.{height-room}
 use Rattle.whitening.proofs.sums.evaluated.Statement.{statement}

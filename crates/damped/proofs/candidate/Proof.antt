@@ -1,8 +1,8 @@
--- `damped::moved` meets its contract. The four sums are the definition's. Assumes nothing.
+-- `damped::candidate` meets its contract. The four sums are the definition's. Assumes nothing.
 use borrow.Author.Needs.{needs}
-use Rattle.damped.specs.Damped.{moved}
-use Rattle.damped.proofs.moved.Statement.{statement}
-use Rattle.damped.proofs.moved.Tie as tie
+use Rattle.damped.specs.Damped.{candidate}
+use Rattle.damped.proofs.candidate.Statement.{statement}
+use Rattle.damped.proofs.candidate.Tie as tie
 
 array-read-t7 : tie.Need-array-read-t7
 array-read-t7 c = search needs
@@ -29,11 +29,11 @@ array-read-t31 : tie.Need-array-read-t31
 array-read-t31 c = search needs
 
 returns : tie.Need-returns
-unfolding moved
+unfolding candidate
 returns c = search needs
 
-pub moved-spec : {M : Type 1} → statement M
-moved-spec =
+pub candidate-spec : {M : Type 1} → statement M
+candidate-spec =
     tie.close
     (tie.spec
     array-read-t7

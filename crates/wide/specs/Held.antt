@@ -1,5 +1,6 @@
--- Whole numbers of two words, document 01's stand-in for the i128 and u128 of solve.rs. Definitions only.
-use Prim.Native.Nat.{ℕ, _+_, _*_, _/_, _%_, _^_}
+-- How the code holds whole numbers of two words, document 01's stand-in for the i128 and u128 of solve.rs. Nothing that
+-- must be believed cites it. Definitions only.
+use Prim.Native.Nat.{ℕ, _+_, _*_, _^_, _/_, _%_}
 use Rattle.wide.specs.declared.Wide.{Wide}
 
 -- the number that two words stand for
