@@ -1,5 +1,4 @@
--- Numbers as people write them: digits with a point among them or none, a minus in front or none. Definitions only;
--- Meaning.antt says what they come to.
+-- Numbers as people write them: digits with a point among them or none, a minus in front or none. Definitions only.
 use Prim.Native.Nat.{ℕ, _+_, _-_, _*_, _^_}
 use mathlib.Core.Bool.{Bool, true, false, cond, _&&_}
 use mathlib.Core.List.{List, [], _∷_}

@@ -1,4 +1,4 @@
--- What the program prints: its lines, as bytes. Definitions only; Meaning.antt says what they come to.
+-- What the program prints: its lines, as bytes. Definitions only.
 use Prim.Native.Nat.{ℕ, _/_, _%_}
 use mathlib.Core.Bool.{cond}
 use mathlib.Core.List.{List, _++_}

@@ -1,7 +1,8 @@
 -- Demand 3, in the words of document 01, 'The words of demand 3': each sentence stands in quotes above what says it.
 -- "All this is defined from the problem, never from what the solve noted": a `Setting` holds what a problem gives the
 -- rounds, by the definitions of the screen, the best fit and the normalised residual, and specs/Later.antt says what
--- the source's remaining steps come to. Nothing here knows of the loop that computes the answer. Statements only.
+-- the source's remaining steps come to. Nothing here but the theorems at the end knows of the loop that computes the
+-- answer. Statements only.
 use mathlib.Core.Path.{_≡_}
 use mathlib.Core.Logic.{_⊎_, _≢_, _↔_}
 use mathlib.Core.Option.{Option, none, some}
@@ -142,7 +143,8 @@ module _ {Q F X : Type 0} (G : Setting Q F X) where
   abbrev pub EachChanged : ℕ → Type 0
   EachChanged k = (E : Subset) × (q : Option Q) × Changed k E q
 
--- "the source's remaining steps", for a set over which the rounds settled and its best fit: what they show, and why not
+-- "the source's remaining steps", for a set over which the rounds settled and its best fit: what they show, or
+-- why they show nothing
 pub record Remaining (F X : Type 0) : Type 1 where
   pub Shows : Subset → F → X → Type 0
   pub Withholds : Subset → F → Unpublished → Type 0
@@ -168,18 +170,20 @@ module _ {Q F X : Type 0} (G : Setting Q F X) (L : Remaining F X) where
         → InTime G S p → Settled G S p f → L .Withholds S f u → Refused (ofUnpublished u)
 
   -- "Demand 3 is a single claim about the whole chain of rounds and its answer": each answer is given exactly when
+  -- what stands beside it holds
   pub record Claim (a : Answer X) : Type 0 where
     pub fixed : (x : X) → (a ≡ fix x) ↔ Fixed x
     pub refusals : (e : Refusal) → (a ≡ refused e) ↔ Refused e
     -- "After 2s+2 changes the answer is 4, however few are then included."
     pub unfixed : (a ≡ noFixedPoint) ↔ EachChanged G (2 * survivors G + 2)
 
--- each outcome of the setting's remaining steps is given exactly where this says so
+-- each outcome of the setting's remaining steps is given exactly where L says so
 pub record Exactly {Q F X : Type 0} (G : Setting Q F X) (L : Remaining F X) : Type 0 where
   pub shows : (S : Subset) (f : F) (x : X) → (G .later S f ≡ gives x) ↔ L .Shows S f x
   pub withholds : (S : Subset) (f : F) (u : Unpublished) → (G .later S f ≡ refuses u) ↔ L .Withholds S f u
 
--- ---- a problem: "an input of the solve that none of 7 and 10 to 15 turns away"
+-- ---- a problem: "an input of the solve that none of 7 and 10 to 15 turns away". What follows is said of any
+-- `Problem`, and entry's `Promise` says it of the one that such an input holds
 module _ (P : Problem) where
   -- what the rounds see of it
   abbrev pub rounds : Setting (List Float) Fit Fix
@@ -219,6 +223,7 @@ module _ (P : Problem) where
   pub record Found (x : Fix) (h : Fixed rounds remaining x) : Type 0 where
     -- "Used are the receptions included when the rounds settled, and the mask shows these."
     pub uses : usedBy x ≡ h .used
+    -- none but kept ones
     pub usedKept : (j : ℕ) → T (usedBy x j) → T (kept rounds j)
     -- "at least four used (three with altitude)"
     pub enough : minimum (P .altitude) ≤ count (usedBy x) (P .n)
@@ -242,7 +247,7 @@ module _ (P : Problem) where
     -- "it shows the last round's best fit"
     pub shows : (position (h .best .params) ≡ x .ecef) × (transmitM (h .best .params) ≡ x .t)
         × (h .best .cost ≡ x .chi2)
-    -- which leads the fits from all starts of that round: it converged and is plausible, none that is costs less, each
+    -- which leads the fits from all starts of that round: it converged and is plausible, no such fit costs less, each
     -- such one from an earlier start costs more; and there is "no rival among the fits from all other starts"
     pub from : ℕ
     pub best : IsBest (whitenedBy x factor) (startsOver (receptionsOf P) (usedBy x) (h .before)) (h .best) from
@@ -260,5 +265,6 @@ abbrev pub OneAnswer : Type 0
 OneAnswer = (P : Problem) (a : Answer Fix) → Demand P a → a ≡ solveProblem P
 
 -- "the source's remaining steps" come to each of their outcomes exactly where specs/Later.antt says so
+-- (proofs/Exact.antt)
 abbrev pub LaterExactly : Type 0
 LaterExactly = (P : Problem) → Exactly (rounds P) (remaining P)
