@@ -8,6 +8,9 @@
 // or a position beyond the wire are passed over. How many records there are, how many were written and how many were
 // passed over is said there at the end.
 ghost use Prim.Native.Nat.{_≤_};
+ghost use mathlib.Core.Path.{_≡_};
+ghost use lib.ListN.{length};
+ghost use Rattle.write_asterix.specs.Exports.{itemsOfWire, itemsOf};
 use libc::STDERR_FILENO;
 use libc::STDOUT_FILENO;
 use wire::Wire;
@@ -33,6 +36,12 @@ struct Stop {
     shown: bool,
 }
 
+// The items of a record, and its number: zeros where that is not 0.
+struct Items {
+    refusal: u32,
+    bytes: [u8; 10],
+}
+
 fn print(text: &[u8]) {
     io::write_all(STDERR_FILENO, text);
 }
@@ -54,27 +63,41 @@ fn shown(items: &[u8], asked: bool) -> bool {
 }
 
 // The wire's numbers as items.
-fn exported(numbers: Wire, write: bool) -> Step {
+fn exported(numbers: Wire) -> Items
+    ensures { λ r. ⌜ (r ≡ itemsOfWire numbers) × (10 ≡ length (r .bytes)) ⌝ }
+{
     let mut items = [0u8; 10];
     let refusal = asterix::to_asterix(numbers, &mut items);
-    let done = shown(&items, write && refusal == 0);
-    Step {
-        ended: false,
+    Items {
         refusal,
-        shown: done,
+        bytes: items,
     }
 }
 
 // The position of a record as items.
-fn placed(bytes: &[u8], write: bool) -> Step {
+fn items_of(bytes: &[u8]) -> Items
+    ensures { λ r. ⌜ (r ≡ itemsOf (now (bytes .entry))) × (10 ≡ length (r .bytes)) ⌝ }
+{
     let written = wire::to_wire(bytes);
     match written {
-        Written::Whole(numbers) => exported(numbers, write),
-        Written::Refused(refusal) => Step {
-            ended: bytes.len() == 0,
+        Written::Whole(numbers) => exported(numbers),
+        Written::Refused(refusal) => Items {
             refusal,
-            shown: true,
+            bytes: [0u8; 10],
         },
+    }
+}
+
+// Writes the items of a record, if that is asked.
+fn placed(bytes: &[u8], write: bool) -> Step {
+    let found = items_of(bytes);
+    let refusal = found.refusal;
+    let items = found.bytes;
+    let done = shown(&items, write && refusal == 0);
+    Step {
+        ended: bytes.len() == 0,
+        refusal,
+        shown: done,
     }
 }
 
