@@ -12,7 +12,7 @@
 mod decimals;
 mod lines;
 
-ghost use Prim.Native.Nat.{_≤_};
+ghost use Prim.Native.Nat.{_+_, _%_, _^_, _≤_};
 ghost use mathlib.Core.Path.{_≡_};
 ghost use mathlib.Core.Bool.{cond};
 ghost use mathlib.Core.List.{List, []};
@@ -21,6 +21,7 @@ ghost use lib.Ieee.{Float};
 ghost use lib.ListN.{length};
 ghost use Rattle.near.specs.Near.{nearestAnswer};
 ghost use Rattle.near.specs.Parts.{nearestIn, joined};
+ghost use Rattle.text.specs.Text.{textOf};
 ghost use Rattle.find_fixes.specs.Blocks as blocks;
 use decimals::Number;
 use decimals::number_at;
@@ -33,9 +34,7 @@ use lines::nearest_line;
 use near::Held;
 use text::Text;
 
-// The bytes of a record, the records of a block, and its bytes.
-const SIZE: usize = 176;
-
+// The records of a block, and its bytes.
 const RECORDS: usize = 256;
 
 const BLOCK: usize = 45056;
@@ -83,19 +82,6 @@ fn told(written: bool) -> bool {
         os::fail(b"find_fixes: standard output");
     }
     written
-}
-
-// ---- distances
-
-// How far the position of a fix is from the point, as `near` has it.
-fn distance(bytes: &[u8], point: Vec3) -> f64 {
-    if bytes.len() != SIZE {
-        return 0.0;
-    }
-    let x = words::f64_at(bytes, 16);
-    let y = words::f64_at(bytes, 24);
-    let z = words::f64_at(bytes, 32);
-    linalg::norm(linalg::sub([x, y, z], point))
 }
 
 // ---- what is turned away
@@ -163,18 +149,33 @@ fn with_block(block: &[u8], base: u64, point: Vec3, best: Best) -> Best
     }
 }
 
+// ---- those within the radius
+
+// What is printed of place k of a block whose first record is at place `base`: the line of the fix there, by its place
+// in the file, if it is within the radius; else nothing. `near` finds it in the record by itself. Whatever is before
+// the block, it is what is printed of place base + k of all bytes so far.
+fn line_at(block: &[u8], base: u64, k: u64, point: Vec3, radius: f64) -> Text
+    ensures line { λ r. ⌜ textOf r
+        ≡ blocks.lineAt (now (block .entry)) point radius k ((base + k) % 2 ^ 64) ⌝ }
+    ensures whole { λ r. ⌜ blocks.LineInFile (now (block .entry)) point radius base k (textOf r) ⌝ }
+    ensures room { λ r. ⌜ (length (r .bytes) ≡ 512) × (r .n ≤ 512) ⌝ }
+{
+    let fix = near::nearest_in(reader::record_at(block, k), point);
+    let none = text::empty();
+    if !fix.found {
+        return none;
+    }
+    if fix.distance <= radius {
+        return fix_line(std::num::wrapping_add_u64(base, k), fix.distance);
+    }
+    none
+}
+
 // Names the fixes of a block within the radius, a line each, as long as they can be written. Whether they were.
 fn name_block(block: &[u8], base: u64, point: Vec3, radius: f64) -> bool {
-    let mut places = [0u64; RECORDS];
-    let mut count = 0u64;
-    near::within(block, point, radius, &mut places, &mut count);
-    for i in 0..RECORDS {
-        if (i as u64) < count {
-            let place = places[i];
-            let d = distance(reader::record_at(block, place), point);
-            if !print(fix_line(std::num::wrapping_add_u64(base, place), d)) {
-                return false;
-            }
+    for k in 0..RECORDS {
+        if !print(line_at(block, base, k as u64, point, radius)) {
+            return false;
         }
     }
     true
