@@ -4,6 +4,7 @@ pub mod Cast
 pub mod Sizes
 pub mod Limit
 pub mod Magnitudes
+pub mod Unsigned
 pub mod HighWords
 pub mod KernelBounds
 pub mod StageBounds

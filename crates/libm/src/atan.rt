@@ -4,6 +4,9 @@
 //
 // The arc tangent: s_atan.c and e_atan2.c of fdlibm 5.3.
 ghost use mathlib.Core.Path.{_≡_};
+ghost use mathlib.Core.Bool.{cond};
+ghost use lib.Dec.{ltb};
+ghost use Rattle.binary64.specs.Steps.{_⊖_, _⊗_, abs};
 ghost use Rattle.libm.specs.Atan.{series, reduce, atan, signs, quarter, xInf, quotient, atan2};
 use crate::words::high;
 use crate::words::negative;
@@ -114,6 +117,24 @@ fn reduce(x: f64, ix: u64) -> Arc
     }
 }
 
+// The arc tangent of an x within 7/16, whose high word is ix.
+fn small(x: f64, ix: u64) -> f64
+    ensures { λ r. ⌜ r ≡ cond (ltb ix 0x3e20_0000) x (x ⊖ x ⊗ series x) ⌝ }
+{
+    // |x| < 2^-29
+    if ix < 0x3e20_0000 {
+        return x;
+    }
+    x - x * series(x)
+}
+
+// The arc of a reduction with the rest, whose tangent is p.x.
+fn whole_arc(p: Arc) -> f64
+    ensures { λ r. ⌜ r ≡ p .hi ⊖ ((p .x ⊗ series (p .x) ⊖ p .lo) ⊖ p .x) ⌝ }
+{
+    p.hi - ((p.x * series(p.x) - p.lo) - p.x)
+}
+
 // The arc tangent of x.
 fn atan(x: f64) -> f64
     ensures { λ r. ⌜ r ≡ atan x ⌝ }
@@ -131,15 +152,30 @@ fn atan(x: f64) -> f64
     }
     // |x| < 7/16
     if ix < 0x3fdc_0000 {
-        // |x| < 2^-29
-        if ix < 0x3e20_0000 {
-            return x;
-        }
-        return x - x * series(x);
+        return small(x, ix);
     }
-    let p = reduce(binary64::abs(x), ix);
-    let z = p.hi - ((p.x * series(p.x) - p.lo) - p.x);
+    let z = whole_arc(reduce(binary64::abs(x), ix));
     signed(x, z)
+}
+
+// The arc tangent of an a whose sign is not set: what `atan` does, without the magnitude and the sign.
+fn atan_unsigned(a: f64) -> f64
+    requires { ⌜ abs a ≡ a ⌝ }
+    ensures { λ r. ⌜ r ≡ atan a ⌝ }
+{
+    let ia = high(a);
+    // a >= 2^66
+    if ia >= 0x4410_0000 {
+        if a != a {
+            return a + a;
+        }
+        return ATANHI3 + ATANLO3;
+    }
+    // a < 7/16
+    if ia < 0x3fdc_0000 {
+        return small(a, ia);
+    }
+    whole_arc(reduce(a, ia))
 }
 
 // m, 2 * sign(x) + sign(y)
@@ -196,7 +232,12 @@ fn quotient(y: f64, x: f64) -> f64
     if negative(x) && iy + 0x3c0_0000 < ix {
         return 0.0;
     }
-    atan(binary64::abs(y / x))
+    let q = y / x;
+    // the magnitude of a number above 0 is itself, and takes no time
+    if q > 0.0 {
+        return atan_unsigned(q);
+    }
+    atan_unsigned(binary64::abs(q))
 }
 
 // The angle of the point (x, y), from -pi to pi.

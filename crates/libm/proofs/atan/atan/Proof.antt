@@ -28,21 +28,13 @@ returns-3 c =
     let at-if1 = c .before .before .before in
     rw (← at-if1 .before .high .ensures, le-leb _ _ (at-if1 .if1 .taken), c .before .before .if2 .left, ← c .before .negative .ensures, c .if3 .left)
 
+small-requires : tie.Need-small-requires
+small-requires c κs = search needs
+
 returns-4 : tie.Need-returns-4
 unfolding atan
 returns-4 c =
-    let at-high = c .before .before .before in
-    rw (← at-high .high .ensures, lt-leb _ _ (c .before .before .if1 .left), lt-ltb _ _ (c .before .if4 .taken), lt-ltb _ 0x3e200000 (c .if5 .taken))
-
-series-requires : tie.Need-series-requires
-series-requires c κs = search needs
-
-returns-5 : tie.Need-returns-5
-unfolding atan
-returns-5 c =
-    let at-if1 = c .before .before .before in
-    rw (← at-if1 .before .high .ensures, lt-leb _ _ (at-if1 .if1 .left), lt-ltb _ _ (c .before .before .if4 .taken))
-    (rw (le-ltb _ 0x3e200000 (c .before .if5 .left), ← c .series .ensures))
+    rw (← c .before .before .before .high .ensures, lt-leb _ _ (c .before .before .if1 .left), lt-ltb _ _ (c .before .if4 .taken), ← c .small .ensures)
 
 abs-requires : tie.Need-abs-requires
 abs-requires c κs = search needs
@@ -50,19 +42,19 @@ abs-requires c κs = search needs
 reduce-requires : tie.Need-reduce-requires
 reduce-requires c κs = search needs
 
-series-requires-2 : tie.Need-series-requires-2
-series-requires-2 c κs = search needs
+whole-arc-requires : tie.Need-whole-arc-requires
+whole-arc-requires c κs = search needs
 
 signed-requires : tie.Need-signed-requires
 signed-requires c κs = search needs
 
-returns-6 : tie.Need-returns-6
+returns-5 : tie.Need-returns-5
 unfolding atan
-returns-6 c =
-    let at-series2 = c .before .before .before .before .before in
-    let at-if4 = at-series2 .before .before .before in
+returns-5 c =
+    let at-abs = c .before .before .before in
+    let at-if4 = at-abs .before in
     rw (← at-if4 .before .before .high .ensures, lt-leb _ _ (at-if4 .before .if1 .left), le-ltb _ _ (at-if4 .if4 .left))
-    (rw (← at-series2 .before .before .abs .ensures, ← at-series2 .before .reduce .ensures, ← at-series2 .series2 .ensures, ← c .signed .ensures))
+    (rw (← at-abs .abs .ensures, ← c .before .before .reduce .ensures, ← c .before .whole-arc .ensures, ← c .signed .ensures))
 
 pub atan-spec : {M : Type 1} → statement M
 atan-spec =
@@ -73,11 +65,10 @@ atan-spec =
     negative-requires
     returns-2
     returns-3
+    small-requires
     returns-4
-    series-requires
-    returns-5
     abs-requires
     reduce-requires
-    series-requires-2
+    whole-arc-requires
     signed-requires
-    returns-6)
+    returns-5)

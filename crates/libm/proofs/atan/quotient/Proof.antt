@@ -1,5 +1,5 @@
 -- `libm::atan::quotient` meets its contract: each return is one case of the definition. A high word is below 2^31, so the sums fit, and either half
--- of the second test may fail. Assumes nothing.
+-- of the second test may fail. A quotient above 0 is its own magnitude (`above-unsigned`). Assumes nothing.
 use borrow.Author.Needs.{needs}
 use mathlib.Core.Path.{_≡_}
 use mathlib.Core.Logic.{⊎-elim}
@@ -8,8 +8,10 @@ use Prim.Native.Nat.{_+_, _*_, _^_}
 use lib.Dec.{ltb}
 use borrow.Author.Tests.{le-leb, lt-leb}
 use native.Mathlib.Omega.{arith}
+use Rattle.binary64.proofs.Order.{abs-abs}
 use Rattle.libm.specs.Words.{high}
 use Rattle.libm.specs.Atan.{quotient}
+use Rattle.libm.proofs.Unsigned.{above-unsigned}
 use Rattle.libm.proofs.atan.quotient.Statement.{statement}
 use Rattle.libm.proofs.atan.quotient.Tie as tie
 
@@ -41,11 +43,8 @@ returns-2 c =
     rw (← at-if1 .before .before .high .ensures, ← at-if1 .before .high2 .ensures, lt-leb (_ + 61 * 2 ^ 20) _ (at-if1 .if1 .left))
     (rw (← c .before .before .negative .ensures, c .before .if2 .taken, c .if3 .taken))
 
-abs-requires : tie.Need-abs-requires
-abs-requires c κs = search needs
-
-atan-requires : tie.Need-atan-requires
-atan-requires c κs = search needs
+atan-unsigned-requires : tie.Need-atan-unsigned-requires
+atan-unsigned-requires c κs = above-unsigned _ (c .if4 .taken)
 
 returns-3 : tie.Need-returns-3
 unfolding quotient
@@ -60,7 +59,28 @@ returns-3 c =
       lt-leb (_ + 61 * 2 ^ 20) _ (at-if1 .if1 .left),
       ← at-negative .negative .ensures,
     )
-    (rw (off, ← c .before .abs .ensures, ← c .atan .ensures))
+    (rw (off, above-unsigned _ (c .before .if4 .taken), ← c .atan-unsigned .ensures))
+
+abs-requires : tie.Need-abs-requires
+abs-requires c κs = search needs
+
+atan-unsigned-requires-2 : tie.Need-atan-unsigned-requires-2
+atan-unsigned-requires-2 c κs = rw (c .abs .ensures) (abs-abs _)
+
+returns-4 : tie.Need-returns-4
+unfolding quotient
+returns-4 c =
+    let at-negative = c .before .before .before .before in
+    let at-if1 = at-negative .before in
+    let off : (at-negative .negative .result && ltb (at-if1 .before .before .high .result + 60 * 2 ^ 20) (at-if1 .before .high2 .result)) ≡ false =
+    ⊎-elim (λ w. rw (w .0 .taken, w .1 .left)) (λ w. rw (w .left)) (c .before .before .before .if2 .came) in
+    rw (
+      ← at-if1 .before .before .high .ensures,
+      ← at-if1 .before .high2 .ensures,
+      lt-leb (_ + 61 * 2 ^ 20) _ (at-if1 .if1 .left),
+      ← at-negative .negative .ensures,
+    )
+    (rw (off, ← c .before .abs .ensures, ← c .atan-unsigned2 .ensures))
 
 pub quotient-spec : {M : Type 1} → statement M
 quotient-spec =
@@ -73,6 +93,8 @@ quotient-spec =
     negative-requires
     add-if3
     returns-2
+    atan-unsigned-requires
+    returns-3
     abs-requires
-    atan-requires
-    returns-3)
+    atan-unsigned-requires-2
+    returns-4)
