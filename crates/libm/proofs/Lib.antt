@@ -6,6 +6,7 @@ pub mod Limit
 pub mod Magnitudes
 pub mod Unsigned
 pub mod HighWords
+pub mod Quarter
 pub mod KernelBounds
 pub mod StageBounds
 pub mod ReducedBounds

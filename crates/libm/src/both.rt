@@ -9,7 +9,10 @@ ghost use Rattle.libm.specs.Trig.{sin, cos, sincos};
 use crate::kernels::k_cos;
 use crate::kernels::k_sin;
 use crate::rem_pio2::LIMIT;
+use crate::rem_pio2::PIO2_1;
+use crate::rem_pio2::PIO2_1T;
 use crate::rem_pio2::rem_pio2;
+use crate::rem_pio2::split;
 use crate::trig::SinCos;
 use crate::words::high;
 use crate::words::signed;
@@ -19,10 +22,19 @@ use crate::words::switch;
 pub fn sincos_into(x: f64, pair: &mut [f64; 2])
     ensures { λ _. ⌜ now (pair .exit) ≡ sin x ∷ cos x ∷ [] ⌝ }
 {
+    let ix = high(x);
     // |x| up to pi/4
-    if high(x) <= 0x3fe9_21fb {
+    if ix <= 0x3fe9_21fb {
         let s = k_sin(x, 0.0, 0);
         let c = k_cos(x, 0.0);
+        *pair = [s, c];
+        return;
+    }
+    // x up to 3 pi/4, not near pi/2, is its own magnitude and has n = 1: no waiting for either
+    if x > 0.0 && ix < 0x4002_d97c && ix != 0x3ff9_21fb {
+        let y = split(1, x - PIO2_1, PIO2_1T);
+        let s = k_cos(y.y0, y.y1);
+        let c = -k_sin(y.y0, y.y1, 1);
         *pair = [s, c];
         return;
     }

@@ -11,9 +11,9 @@ use crate::words::high;
 // 2/pi; three parts of pi/2, of 33 binary digits each; and, with a T, the rest of pi/2 after each
 const INVPIO2: f64 = 6.36619772367581382433e-01;
 
-const PIO2_1: f64 = 1.57079632673412561417e+00;
+pub const PIO2_1: f64 = 1.57079632673412561417e+00;
 
-const PIO2_1T: f64 = 6.07710050650619224932e-11;
+pub const PIO2_1T: f64 = 6.07710050650619224932e-11;
 
 const PIO2_2: f64 = 6.07710050630396597660e-11;
 
@@ -82,7 +82,7 @@ fn lost(x: f64, y: f64) -> u64
 }
 
 // y[0] and y[1] of what is left, with n.
-fn split(n: u64, r: f64, w: f64) -> Reduced
+pub fn split(n: u64, r: f64, w: f64) -> Reduced
     ensures { λ o. ⌜ o ≡ split n r w ⌝ }
 {
     let y0 = r - w;
