@@ -5,7 +5,7 @@ use mathlib.Core.Bool.{true, not}
 use Prim.Native.Nat.{_%_, _^_, _<_}
 use native.Mathlib.Omega.{arith}
 use borrow.Author.Tests.{lt-ltb, lt-leb, ltb-true}
-use lib.Dec.{T, ltb, eqb}
+use lib.Dec.{ltb, eqb}
 use lib.Ieee.{Float, binary64, neg, le, lt, fits, ofBits, toBits}
 use lib.Ieee.Bits.{is-true}
 use Rattle.binary64.specs.Steps.{_⊖_, nought, abs, isFinite}
@@ -19,7 +19,7 @@ use Rattle.libm.specs.RemPio2.{pio2, pio2t, split, remPio2}
 use Rattle.libm.specs.Trig.{limit, quadrant, sin, cos}
 use Rattle.libm.specs.declared.rem_pio2.Reduced.{Reduced}
 use Rattle.libm.proofs.Unsigned.{above-unsigned, not-negative}
-use Rattle.libm.proofs.HighWords.{word-is, high-below}
+use Rattle.libm.proofs.HighWords.{high-below}
 
 -- a high word below an infinity's
 high-is : (x : Float) → fits binary64 x ≡ true → high x < 0x7ff00000 → Is binary64 x
@@ -30,21 +30,13 @@ high-is x f h =
     ap isFinite (sym (back x f)) ∙ sym (finite-bits b) ∙ lt-ltb (b % 2 ^ 63) 0x7ff0000000000000 (omega arith) in
     (holds (fits binary64 x) f, is-finite x below)
 
-limit-is : Is binary64 limit
-unfolding ofBits fits
-limit-is = (tt, tt)
-
-turn-limit : T (le (word 0x4002d97c) limit)
-unfolding ofBits le
-turn-limit = tt
-
 -- 3 pi/4 is below 7
 to-limit : (x : Float) → fits binary64 x ≡ true → high x < 0x4002d97c → le (abs x) limit ≡ true
+unfolding ofBits le fits
 to-limit x f h =
     let p = high-is x f (omega arith) in
     is-true (le (abs x) limit)
-    (le-trans-is binary64 (abs x) (word 0x4002d97c) limit (abs-is x p) (word-is 0x4002d97c (omega arith)) limit-is
-    (high-below x p 0x4002d97c (omega arith) h) turn-limit)
+    (le-trans-is binary64 (abs x) (word 0x4002d97c) limit (abs-is x p) (tt, tt) (tt, tt) (high-below x p 0x4002d97c (omega arith) h) tt)
 
 module _ (x : Float) (f : fits binary64 x ≡ true) (above : lt nought x ≡ true) (past : 0x3fe921fb < high x) (below : ltb (high x) 0x4002d97c ≡ true)
     (apart : not (eqb (high x) 0x3ff921fb) ≡ true) where

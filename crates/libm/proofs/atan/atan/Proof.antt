@@ -34,7 +34,8 @@ small-requires c κs = search needs
 returns-4 : tie.Need-returns-4
 unfolding atan
 returns-4 c =
-    rw (← c .before .before .before .high .ensures, lt-leb _ _ (c .before .before .if1 .left), lt-ltb _ _ (c .before .if4 .taken), ← c .small .ensures)
+    let at-if1 = c .before .before in
+    rw (← at-if1 .before .high .ensures, lt-leb _ _ (at-if1 .if1 .left), lt-ltb _ _ (c .before .if4 .taken)) (c .small .ensures)
 
 abs-requires : tie.Need-abs-requires
 abs-requires c κs = search needs
