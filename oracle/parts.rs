@@ -95,10 +95,6 @@ pub fn flat<const N: usize>(matrix: &Matrix) -> [f64; N] {
     filled(matrix.data.iter().copied())
 }
 
-pub fn covariance(problem: &Problem, subset: &[usize]) -> [f64; 1024] {
-    flat(&problem.covariance(subset))
-}
-
 /// The lower triangular factor, zeros right of the diagonal; none where a pivot is refused.
 pub fn whitener(problem: &Problem, subset: &[usize]) -> Option<[f64; 1024]> {
     problem.whitener(subset).map(|factor| filled(factor.l.iter().copied()))

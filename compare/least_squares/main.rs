@@ -81,7 +81,7 @@ impl Tally {
         let Arrays { n, clock_m2, noise_m2, .. } = arrays;
         let mut sigma = [MARK; 1024];
         unsafe { port::fit_covariance(clock_m2, *n, noise_m2, &chosen.index, chosen.k, &mut sigma) };
-        self.array("covariance", at, &sigma, &parts::covariance(problem, subset));
+        self.array("covariance", at, &sigma, &filled::<1024>(&problem.covariance(subset).data, 0.0));
         let mut l = [0.0; 1024];
         let found = unsafe { port::fit_whitener(clock_m2, *n, noise_m2, &chosen.index, chosen.k, &mut l) };
         self.verdict("whitener", at, found, factor.is_some());

@@ -74,6 +74,8 @@ pub fn cholesky(a: &[f64], n: usize, l: &mut [f64]) -> bool
     requires { ⌜ (n * n ≤ length (now a)) × (n * n ≤ length (now l)) ⌝ }
     ensures { λ r. ⌜ verdict r (now (l .exit)) ≡ cholesky (now (a .entry)) n (now (l .entry)) ⌝ }
 {
+    // read before anything is stored: so a matrix that a caller was given by value is not copied
+    let a = &*a;
     for j in 0..n {
         let known = &*l;
         let diagonal = minus_dots(known, j * n, 1, known, j * n, 1, j, at(a, n, j, j));

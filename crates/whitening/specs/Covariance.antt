@@ -39,10 +39,10 @@ module _ (clock : List Float) (n : ℕ) (noise : List Float) where
     covarianceTo k sigma zero = sigma
     covarianceTo k sigma (suc a) = covarianceRowTo k a (covarianceTo k sigma a) (k - a)
 
-    -- `covariance`, in an array: all k rows, and what lies past them stays
-    abbrev pub covariance : ℕ → List Float → List Float
-    covariance k sigma = covarianceTo k sigma k
+    -- `covariance`, in the array of a `Matrix`: all k rows
+    abbrev pub covariance : ℕ → List Float
+    covariance k = covarianceTo k zeros k
 
     -- `whitener`, in the array l
     unfoldable pub whitener : ℕ → List Float → Factor
-    whitener k l = cholesky (covariance k zeros) k l
+    whitener k l = cholesky (covariance k) k l

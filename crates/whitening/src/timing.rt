@@ -3,6 +3,7 @@
 ghost use mathlib.Core.Path.{_≡_};
 ghost use Prim.Native.Nat.{ℕ, _-_, _<_, _≤_};
 ghost use Rattle.dense.specs.Held.{verdict};
+ghost use Rattle.linalg.specs.Held.{matrix};
 ghost use Rattle.problem.specs.Gathered.{pick};
 ghost use Rattle.whitening.specs.Covariance.{shared, covarianceRowTo, covariance, sigma, whitener};
 use linalg::Matrix;
@@ -50,23 +51,24 @@ fn covariance_row(
     }
 }
 
-// The covariance, into the array of a `Matrix` of size k.
+// The covariance, in a `Matrix` of size k.
 pub fn covariance(
     clock: &[f64; 1024],
     n: usize,
     noise: &[f64; 32],
     index: &[usize; 32],
     k: usize,
-    sigma: &mut [f64; 1024],
-)
+) -> Matrix
     requires { ⌜ (n ≤ 32) × (k ≤ 32) ⌝ }
     requires { ⌜ ((i : ℕ) → i < k → pick (now index) i < n) ⌝ }
-    ensures { λ _. ⌜ now (sigma .exit)
-        ≡ covariance (now (clock .entry)) n (now (noise .entry)) (now (index .entry)) k (now (sigma .entry)) ⌝ }
+    ensures { λ r. ⌜ r
+        ≡ matrix k (covariance (now (clock .entry)) n (now (noise .entry)) (now (index .entry)) k) ⌝ }
 {
+    let mut sigma = Matrix::zeros(k);
     for a in 0..k {
-        covariance_row(clock, n, noise, index, k, a, &mut *sigma);
+        covariance_row(clock, n, noise, index, k, a, &mut sigma.data);
     }
+    sigma
 }
 
 // One reception's standard deviation, metres: the root of its diagonal entry.
@@ -93,7 +95,6 @@ pub fn whitener(
     ensures { λ r. ⌜ verdict r (now (l .exit))
         ≡ whitener (now (clock .entry)) n (now (noise .entry)) (now (index .entry)) k (now (l .entry)) ⌝ }
 {
-    let mut sigma = Matrix::zeros(k);
-    covariance(clock, n, noise, index, sigma.n, &mut sigma.data);
+    let sigma = covariance(clock, n, noise, index, k);
     Matrix::cholesky(&sigma.data, sigma.n, &mut *l)
 }

@@ -15,10 +15,10 @@ use Rattle.dense.proofs.cholesky.Statement.{statement}
 use Rattle.dense.proofs.cholesky.Tie as tie
 
 abbrev Inv-loop : tie.InvT-loop
-Inv-loop a n l₀ j₀ l j = (j ≤ n) × (length l ≡ length l₀) × (choleskyTo a n l₀ j ≡ found l)
+Inv-loop a n l₀ a₀ j₀ l j = (j ≤ n) × (length l ≡ length l₀) × (choleskyTo a n l₀ j ≡ found l)
 
 abbrev μ-loop : tie.MeasureT-loop
-μ-loop a n l₀ j₀ l j = n - j
+μ-loop a n l₀ a₀ j₀ l j = n - j
 
 -- what `minus_dots` gives is the pivot
 is-pivot : (c : tie.After-minus-dots Inv-loop μ-loop) →
