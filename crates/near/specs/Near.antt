@@ -69,7 +69,8 @@ goodRadius radius = goodSize radius && not (lt radius nought)
 
 -- 16 where the file is not whole records, then 18 where one of them is none that the reader takes apart
 unfoldable pub fileRefusal : List ℕ → ℕ
-fileRefusal file = cond (eqb (length file % recordBytes) 0) (cond (readableTo file (records file)) 0 malformedRecord) tornFile
+fileRefusal file =
+    cond (eqb (length file % recordBytes) 0) (cond (readableTo file (records file)) 0 malformedRecord) tornFile
 
 -- "22 bad query, tested after the whole file is read"
 unfoldable pub queryRefusal : List ℕ → Bool → ℕ
