@@ -10,29 +10,55 @@ use libc::STDIN_FILENO;
 // A proved loop has to end, and nothing says that an input does: no file has this many cases.
 pub const MOST: u64 = 1000000;
 
-// How many cases were compared, and how many of them differ.
+// Whether a case is as its record has it, and whether it is as a falsified record has it.
+pub struct Compared {
+    pub same: bool,
+    pub same_falsified: bool,
+}
+
+// How many cases were compared, with their records and with falsified ones, and how many differ from each.
 pub struct Tally {
     pub compared: u64,
     pub differ: u64,
+    pub differ_falsified: u64,
+}
+
+// One more, where a case differs.
+fn counted(differ: u64, agrees: bool) -> u64
+    requires { ⌜ differ < 1000000 ⌝ }
+    ensures { λ r. ⌜ r ≡ cond agrees differ (differ + 1) ⌝ }
+{
+    if agrees {
+        return differ;
+    }
+    differ + 1
 }
 
 impl Tally {
-    // One case more, which agrees or differs. The second `ensures` follows from the first, and is there for the next
-    // call.
-    pub fn with(self, agrees: bool) -> Tally
-        requires { ⌜ (self .compared < 1000000) × (self .differ ≤ self .compared) ⌝ }
-        ensures { λ r. ⌜ (r .compared ≡ self .compared + 1)
-            × (r .differ ≡ cond agrees (self .differ) (self .differ + 1)) ⌝ }
-        ensures { λ r. ⌜ r .differ ≤ r .compared ⌝ }
+    pub fn none() -> Tally
+        ensures { λ r. ⌜ (r .compared ≡ 0) × (r .differ ≡ 0) × (r .«differ_falsified» ≡ 0) ⌝ }
     {
-        let compared = self.compared + 1;
-        let differ = self.differ;
-        if agrees {
-            return Tally { compared, differ };
-        }
         Tally {
-            compared,
-            differ: differ + 1,
+            compared: 0,
+            differ: 0,
+            differ_falsified: 0,
+        }
+    }
+
+    // One case more. The second `ensures` follows from the first, and is there for the next call.
+    pub fn with(self, found: Compared) -> Tally
+        requires { ⌜ self .compared < 1000000 ⌝ }
+        requires { ⌜ (self .differ ≤ self .compared) × (self .«differ_falsified» ≤ self .compared) ⌝ }
+        ensures { λ r. ⌜ (r .compared ≡ self .compared + 1)
+            × (r .differ ≡ cond (found .same) (self .differ) (self .differ + 1))
+            × (r .«differ_falsified» ≡ cond (found .«same_falsified») (self .«differ_falsified»)
+            (self .«differ_falsified» + 1)) ⌝ }
+        ensures { λ r. ⌜ (r .differ ≤ r .compared) × (r .«differ_falsified» ≤ r .compared) ⌝ }
+    {
+        Tally {
+            compared: self.compared + 1,
+            differ: counted(self.differ, found.same),
+            differ_falsified: counted(self.differ_falsified, found.same_falsified),
         }
     }
 }

@@ -1,5 +1,5 @@
--- What the inner functions of src/curvature.rt promise each other. Nothing that must be believed cites it. Definitions
--- only.
+-- What the inner functions of src/curvature.rt promise each other, and what stands for a place where there is none.
+-- Nothing that must be believed cites it. Definitions only.
 use mathlib.Core.Path.{_≡_}
 use Prim.Native.Nat.{ℕ, _+_, _*_, _^_, _≤_, _<_}
 use lib.Ieee.{Float}

@@ -173,7 +173,7 @@ module _ (n : ℕ) (from : ℕ → Reception) (g : Given) (b alt ref : List ℕ)
     unfolding problemOf fieldsOf
     in-domain =
         record {
-          few = small;
+          most = small;
           times = λ i h. rw (fill-at (wholes 32) (λ i. from i .time) n i (pos 0) h (rw length-replicate (let s = small in omega arith)))
               (time-good from i (passes i h));
           sites = sites-good;

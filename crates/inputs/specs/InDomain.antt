@@ -22,7 +22,7 @@ altitudeGood (Barometric metres) = goodMetres metres
 altitudeGood (Gnss metres) = goodMetres metres
 
 pub record InDomain (p : Problem) : Type 0 where
-  pub few : p .n ≤ mostReceptions
+  pub most : p .n ≤ mostReceptions
   pub times : (i : ℕ) → i < p .n → goodTime (getD (p .time) i (pos 0)) ≡ true
   pub sites : (k : ℕ) → k < 3 * p .n → goodCoordinate (getD (p .«site_mm») k (pos 0)) ≡ true
   pub zs : (i : ℕ) → i < p .n → goodZ (nth (p .z) i) ≡ true

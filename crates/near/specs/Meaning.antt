@@ -12,6 +12,7 @@ use Rattle.refusals.specs.Refusals.{shortOutput, tornFile, malformedRecord, bad
 use Rattle.binary64.specs.Steps.{#, decimal, nought, abs, isFinite}
 use Rattle.dense.specs.Entries.{nth}
 use Rattle.linalg.specs.Vec3.{three, sub, norm}
+use Rattle.record.specs.Record.{recordBytes}
 use Rattle.reader.specs.Rules.{answerAt}
 use Rattle.reader.specs.Read.{recordAt, readOf}
 use Rattle.near.specs.Near.{records, distanceAt, withinAnswer, placesAfter, countAfter}
@@ -37,7 +38,7 @@ pub record Nearest (file : List ℕ) (point : List Float) (k : ℕ) : Type 0 whe
 
 -- whole records
 abbrev pub Whole : List ℕ → Type 0
-Whole file = length file ≡ 176 * records file
+Whole file = length file ≡ recordBytes * records file
 
 -- the reader takes the record at a place apart
 abbrev pub Readable : List ℕ → ℕ → Type 0

@@ -13,6 +13,7 @@ use Rattle.dense.specs.Entries.{nth}
 use Rattle.linalg.specs.Vec3.{sub, norm}
 use Rattle.sets.specs.Sets.{Subset, count, membersTo}
 use Rattle.sets.specs.Choice.{choose}
+use Rattle.record.specs.Record.{recordBytes}
 use Rattle.reader.specs.Rules.{answerAt}
 use Rattle.reader.specs.Read.{recordAt, threeAt, readOf}
 use Rattle.near.specs.declared.Held.{Held}
@@ -21,7 +22,7 @@ use Rattle.near.specs.declared.Held.{Held}
 
 -- "the file's length divided by 176, rounded down"
 abbrev pub records : List ℕ → ℕ
-records file = length file / 176
+records file = length file / recordBytes
 
 -- whether the record at a place is one that the reader takes apart, and whether those at the places below k are
 abbrev pub readable : List ℕ → ℕ → Bool
@@ -68,7 +69,8 @@ goodRadius radius = goodSize radius && not (lt radius nought)
 
 -- 16 where the file is not whole records, then 18 where one of them is none that the reader takes apart
 unfoldable pub fileRefusal : List ℕ → ℕ
-fileRefusal file = cond (eqb (length file % 176) 0) (cond (readableTo file (records file)) 0 malformedRecord) tornFile
+fileRefusal file =
+    cond (eqb (length file % recordBytes) 0) (cond (readableTo file (records file)) 0 malformedRecord) tornFile
 
 -- "22 bad query, tested after the whole file is read"
 unfoldable pub queryRefusal : List ℕ → Bool → ℕ

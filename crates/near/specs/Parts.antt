@@ -7,13 +7,14 @@ use mathlib.Core.List.{List, _++_}
 use lib.Dec.{eqb}
 use lib.ListN.{length}
 use lib.Ieee.{Float}
+use Rattle.record.specs.Record.{recordBytes}
 use Rattle.near.specs.declared.Held.{Held}
 use Rattle.near.specs.Near.{records, noneHeld, heldTo, step}
 use Rattle.near.specs.Meaning.{Whole, Sound, GoodPoint}
 
 -- the nearest of a part, by its place in the part, with its distance; none where the part is not whole records
 unfoldable pub nearestIn : List ℕ → List Float → Held
-nearestIn part point = cond (eqb (length part % 176) 0) (heldTo part point (records part)) noneHeld
+nearestIn part point = cond (eqb (length part % recordBytes) 0) (heldTo part point (records part)) noneHeld
 
 -- that of two parts, the first of which has `base` records: the second's, where it is closer
 unfoldable pub joined : Held → ℕ → Held → Held

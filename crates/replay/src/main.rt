@@ -2,6 +2,7 @@
 // beside this program states. Prints how many were compared and how many differ, in the answer or in any of the 176
 // bytes; and how many were compared with a falsified record, and how many of those differ, which is to be all: the
 // record of input k has its byte k % 176 changed, byte 0 being the answer.
+use cases::Compared;
 use cases::Tally;
 use libc::STDOUT_FILENO;
 
@@ -25,12 +26,6 @@ fn falsified(recorded: &[u8; 176], k: u64) -> [u8; 176] {
     let place = (k % 176) as usize;
     other[place] = other[place] ^ 1;
     other
-}
-
-// Whether an input's answer and record are the recorded ones, and whether they are the falsified ones.
-struct Compared {
-    same: bool,
-    same_falsified: bool,
 }
 
 // The solve of these files, compared with the record of input k.
@@ -91,31 +86,23 @@ fn next(head: &mut [u8; 8]) -> bool {
     cases::read(head, 8) == 8
 }
 
-fn print(tally: Tally, falsified: Tally) {
+fn print(tally: Tally) {
     io::print_decimal(STDOUT_FILENO, tally.compared);
     io::write_all(STDOUT_FILENO, b" compared, ");
     io::print_decimal(STDOUT_FILENO, tally.differ);
     io::write_all(STDOUT_FILENO, b" differ; ");
-    io::print_decimal(STDOUT_FILENO, falsified.compared);
+    io::print_decimal(STDOUT_FILENO, tally.compared);
     io::write_all(STDOUT_FILENO, b" falsified, ");
-    io::print_decimal(STDOUT_FILENO, falsified.differ);
+    io::print_decimal(STDOUT_FILENO, tally.differ_falsified);
     io::write_all(STDOUT_FILENO, b" differ\n");
 }
 
 fn main() {
     let mut head = [0u8; 8];
-    let mut tally = Tally {
-        compared: 0,
-        differ: 0,
-    };
-    let mut falsified = Tally {
-        compared: 0,
-        differ: 0,
-    };
-    while tally.compared < cases::MOST && falsified.compared < cases::MOST && next(&mut head) {
+    let mut tally = Tally::none();
+    while tally.compared < cases::MOST && next(&mut head) {
         let found = tried(&head, tally.compared);
-        tally = tally.with(found.same);
-        falsified = falsified.with(found.same_falsified);
+        tally = tally.with(found);
     }
-    print(tally, falsified);
+    print(tally);
 }

@@ -3,17 +3,12 @@
 // differ, in the number or in any entry of the output; and how many were compared with a falsified answer, and how many
 // of those differ, which is to be all: of call k byte k % 64 of what it leaves is changed, or, past its end, the
 // number.
+use cases::Compared;
 use cases::Tally;
 use libc::STDOUT_FILENO;
 
 // The output holds bytes A5 before a call, so that what is not written shows.
 const FOUND: u64 = 0xa5a5_a5a5_a5a5_a5a5;
-
-// Whether a call's answer is the recorded one, and whether it is the falsified one.
-struct Compared {
-    same: bool,
-    same_falsified: bool,
-}
 
 // A length of two bytes, the lower one first.
 fn size(low: u8, high: u8) -> usize {
@@ -138,31 +133,23 @@ fn next(head: &mut [u8; 16]) -> bool {
     cases::read(head, 16) == 16
 }
 
-fn print(tally: Tally, falsified: Tally) {
+fn print(tally: Tally) {
     io::print_decimal(STDOUT_FILENO, tally.compared);
     io::write_all(STDOUT_FILENO, b" compared, ");
     io::print_decimal(STDOUT_FILENO, tally.differ);
     io::write_all(STDOUT_FILENO, b" differ; ");
-    io::print_decimal(STDOUT_FILENO, falsified.compared);
+    io::print_decimal(STDOUT_FILENO, tally.compared);
     io::write_all(STDOUT_FILENO, b" falsified, ");
-    io::print_decimal(STDOUT_FILENO, falsified.differ);
+    io::print_decimal(STDOUT_FILENO, tally.differ_falsified);
     io::write_all(STDOUT_FILENO, b" differ\n");
 }
 
 fn main() {
     let mut head = [0u8; 16];
-    let mut tally = Tally {
-        compared: 0,
-        differ: 0,
-    };
-    let mut falsified = Tally {
-        compared: 0,
-        differ: 0,
-    };
-    while tally.compared < cases::MOST && falsified.compared < cases::MOST && next(&mut head) {
+    let mut tally = Tally::none();
+    while tally.compared < cases::MOST && next(&mut head) {
         let found = tried(&head, tally.compared);
-        tally = tally.with(found.same);
-        falsified = falsified.with(found.same_falsified);
+        tally = tally.with(found);
     }
-    print(tally, falsified);
+    print(tally);
 }

@@ -2,17 +2,12 @@
 // one after the other, in the form that RECORDING.md beside this program states. Prints how many were compared and how
 // many differ, in the number or in any count; and how many were compared with a falsified answer, and how many of those
 // differ, which is to be all: of call k byte k % 60 of what it answers and leaves is changed.
+use cases::Compared;
 use cases::Tally;
 use libc::STDOUT_FILENO;
 
 // Lent counts before a call: bytes A5, so that what is not written shows.
 const FOUND: u64 = 0xa5a5_a5a5_a5a5_a5a5;
-
-// Whether a call's answer is the recorded one, and whether it is the falsified one.
-struct Compared {
-    same: bool,
-    same_falsified: bool,
-}
 
 // Whether a number and counts are the recorded ones.
 fn alike(answer: u32, counts: &[u64; 7], recorded: &[u8; 64]) -> bool {
@@ -51,31 +46,23 @@ fn next(recorded: &mut [u8; 64]) -> bool {
     cases::read(recorded, 64) == 64
 }
 
-fn print(tally: Tally, falsified: Tally) {
+fn print(tally: Tally) {
     io::print_decimal(STDOUT_FILENO, tally.compared);
     io::write_all(STDOUT_FILENO, b" compared, ");
     io::print_decimal(STDOUT_FILENO, tally.differ);
     io::write_all(STDOUT_FILENO, b" differ; ");
-    io::print_decimal(STDOUT_FILENO, falsified.compared);
+    io::print_decimal(STDOUT_FILENO, tally.compared);
     io::write_all(STDOUT_FILENO, b" falsified, ");
-    io::print_decimal(STDOUT_FILENO, falsified.differ);
+    io::print_decimal(STDOUT_FILENO, tally.differ_falsified);
     io::write_all(STDOUT_FILENO, b" differ\n");
 }
 
 fn main() {
     let mut recorded = [0u8; 64];
-    let mut tally = Tally {
-        compared: 0,
-        differ: 0,
-    };
-    let mut falsified = Tally {
-        compared: 0,
-        differ: 0,
-    };
-    while tally.compared < cases::MOST && falsified.compared < cases::MOST && next(&mut recorded) {
+    let mut tally = Tally::none();
+    while tally.compared < cases::MOST && next(&mut recorded) {
         let found = tried(&mut recorded, tally.compared);
-        tally = tally.with(found.same);
-        falsified = falsified.with(found.same_falsified);
+        tally = tally.with(found);
     }
-    print(tally, falsified);
+    print(tally);
 }

@@ -3,6 +3,7 @@
 // in the answer, the detail or any of the 640 bytes lent; and how many were compared with a falsified answer, and how
 // many of those differ, which is to be all: input k has a byte of its answer changed where k is even, and of its states
 // elsewhere.
+use cases::Compared;
 use cases::Tally;
 use libc::STDOUT_FILENO;
 
@@ -39,12 +40,6 @@ fn falsified_states(recorded: &[u8; 640], k: u64) -> [u8; 640] {
         other[place] = other[place] ^ 1;
     }
     other
-}
-
-// Whether an input's answer is the recorded one, and whether it is the falsified one.
-struct Compared {
-    same: bool,
-    same_falsified: bool,
 }
 
 // The answer number and the detail of these files, one after the other, and the lent bytes.
@@ -111,31 +106,23 @@ fn next(head: &mut [u8; 8]) -> bool {
     cases::read(head, 8) == 8
 }
 
-fn print(tally: Tally, falsified: Tally) {
+fn print(tally: Tally) {
     io::print_decimal(STDOUT_FILENO, tally.compared);
     io::write_all(STDOUT_FILENO, b" compared, ");
     io::print_decimal(STDOUT_FILENO, tally.differ);
     io::write_all(STDOUT_FILENO, b" differ; ");
-    io::print_decimal(STDOUT_FILENO, falsified.compared);
+    io::print_decimal(STDOUT_FILENO, tally.compared);
     io::write_all(STDOUT_FILENO, b" falsified, ");
-    io::print_decimal(STDOUT_FILENO, falsified.differ);
+    io::print_decimal(STDOUT_FILENO, tally.differ_falsified);
     io::write_all(STDOUT_FILENO, b" differ\n");
 }
 
 fn main() {
     let mut head = [0u8; 8];
-    let mut tally = Tally {
-        compared: 0,
-        differ: 0,
-    };
-    let mut falsified = Tally {
-        compared: 0,
-        differ: 0,
-    };
-    while tally.compared < cases::MOST && falsified.compared < cases::MOST && next(&mut head) {
+    let mut tally = Tally::none();
+    while tally.compared < cases::MOST && next(&mut head) {
         let found = tried(&head, tally.compared);
-        tally = tally.with(found.same);
-        falsified = falsified.with(found.same_falsified);
+        tally = tally.with(found);
     }
-    print(tally, falsified);
+    print(tally);
 }

@@ -11,7 +11,8 @@ use Rattle.sets.specs.Choice.{FirstBest, IsChoice, Ranks}
 use Rattle.sets.proofs.Tests.{either, and-l, and-r, and-both}
 use Rattle.sets.proofs.Choosing.{choose-is}
 use Rattle.rounds.specs.Setting.{Setting, five, kept}
-use Rattle.rounds.specs.Rounds.{above, greater, worst, readmissible, less, least}
+use Rattle.rounds.specs.Setting.{greater, less}
+use Rattle.rounds.specs.Rounds.{above, worst, readmissible, least}
 use Rattle.rounds.specs.Demand.{Worst, NoneAbove, leftOut, Least}
 use Rattle.best.proofs.Order.{lt-split, lt-asym, lt-right, le-left, lt-trans, le-of-not-lt, lt-of-not-le, le-lt}
 

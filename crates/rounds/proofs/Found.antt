@@ -155,7 +155,7 @@ module _ (P : Problem) (N : P .n ≤ 32) (x : Fix) (h : Fixed (rounds P) (remain
     below = subst (λ (q : Float). T (le q maxHeightM)) (sym height-is) (flies .below);
     freedom = shown (λ y. y .dof) ∙ ap (dofOf R) (sym uses);
     factor = l;
-    whitened = ap (whitenerOver R) uses ∙ is-best .whitens;
+    whitens = ap (whitenerOver R) uses ∙ is-best .whitens;
     consistent = subst (λ (q : Float × Float). T (not (lt (q .0) (q .1)))) (ap₂ (λ (u v : Float). (u, v)) (sym limit-is) (sym (shown (λ y. y .chi2))))
         (past .informed .consistent .within);
     shows = (sym ecef-is, sym (shown (λ y. y .t)), sym (shown (λ y. y .chi2)));

@@ -18,7 +18,8 @@ use Rattle.best.proofs.Order.{le-of-not-lt, lt-of-not-le, le-lt}
 use Rattle.rounds.specs.declared.outliers.Choice.{Choice}
 use Rattle.rounds.specs.declared.outliers.Choices.{Choices}
 use Rattle.rounds.specs.Setting.{five}
-use Rattle.rounds.specs.Rounds.{above, greater, worst, readmissible, less, least}
+use Rattle.rounds.specs.Setting.{greater, less}
+use Rattle.rounds.specs.Rounds.{above, worst, readmissible, least}
 use Rattle.rounds.specs.Looked.{held, lookedTo, chosenBy, LookFindsBoth}
 use Rattle.rounds.proofs.Choices.{five-number, ranks-greater, ranks-less}
 

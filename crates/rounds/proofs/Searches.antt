@@ -14,7 +14,8 @@ use Rattle.sets.proofs.Tests.{T→eq, eq→T, and-l, same-T}
 use Rattle.sets.proofs.Counting.{count-same, count-pos}
 use Rattle.best.proofs.Cheapest.{same-choice}
 use Rattle.rounds.specs.Setting.{five}
-use Rattle.rounds.specs.Rounds.{above, greater, worst, readmissible, less, least, noNumber, unnumbered, turned, decided}
+use Rattle.rounds.specs.Setting.{greater, less}
+use Rattle.rounds.specs.Rounds.{above, worst, readmissible, least, noNumber, unnumbered, turned, decided}
 
 -- ---- a residual that is not a number
 pub ne-nan : (x : Float) → ne x x ≡ isNan x

@@ -15,7 +15,8 @@ use Rattle.sets.proofs.Choosing.{choice-unique}
 use Rattle.best.specs.declared.Unfit.{Unfit}
 use Rattle.best.specs.Best.{Outcome, refuses, gives}
 use Rattle.rounds.specs.Setting.{Setting, kept}
-use Rattle.rounds.specs.Rounds.{Step, ends, changes, settles, above, greater, worst, readmissible, less, least, noNumber, turned, decided}
+use Rattle.rounds.specs.Setting.{greater, less}
+use Rattle.rounds.specs.Rounds.{Step, ends, changes, settles, above, worst, readmissible, least, noNumber, turned, decided}
 use Rattle.rounds.specs.Rounds.{begun, round}
 use Rattle.rounds.specs.Rounds as rounds
 use Rattle.rounds.specs.Demand.{Fitted, Change, removal, return, Settled, Ends, few, unfit, unnumbered}

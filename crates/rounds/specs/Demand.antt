@@ -33,7 +33,7 @@ use Rattle.rounds.specs.declared.answer.Refusal.{Refusal}
 use Rattle.rounds.specs.declared.answer.Refusal.the-variants.{TooFew, Singular}
 use Rattle.rounds.specs.declared.finish.Unpublished.{Unpublished}
 use Rattle.rounds.specs.Setting.{ofUnfit, ofUnpublished, Answer, fix, refused, noFixedPoint, Setting, five, kept}
-use Rattle.rounds.specs.Setting.{survivors}
+use Rattle.rounds.specs.Setting.{survivors, greater, less}
 use Rattle.rounds.specs.Solve.{limitAt, normalised, dofOf, settingAt, solveProblem}
 use Rattle.rounds.specs.Later.{Published, Withheld}
 
@@ -52,13 +52,6 @@ module _ {Q F X : Type 0} (G : Setting Q F X) where
     pub best : G .bestFit S p ≡ gives f
     pub numbers : (j : ℕ) → j < G .n → T (kept G j) → T (not (isNan (G .residual f j)))
 
-  -- the residual of j is greater than that of k, or less
-  abbrev pub greater : F → ℕ → ℕ → Bool
-  greater f j k = lt (G .residual f k) (G .residual f j)
-
-  abbrev pub less : F → ℕ → ℕ → Bool
-  less f j k = lt (G .residual f j) (G .residual f k)
-
   -- above 5, and not above 5
   abbrev pub Above : F → ℕ → Type 0
   Above f j = T (lt five (G .residual f j))
@@ -73,11 +66,11 @@ module _ {Q F X : Type 0} (G : Setting Q F X) where
   -- i is the greatest of the included, and above 5. "Ties go to the lowest index.": none is greater, and i is greater
   -- than each before it
   abbrev pub Worst : Subset → F → ℕ → Type 0
-  Worst S f i = FirstBest S (greater f) (G .n) i × Above f i
+  Worst S f i = FirstBest S (greater (G .residual f)) (G .n) i × Above f i
 
   -- i is the least of those left out, and not above 5: none is less, and i is less than each before it
   abbrev pub Least : Subset → F → ℕ → Type 0
-  Least S f i = FirstBest (leftOut S) (less f) (G .n) i × NotAbove f i
+  Least S f i = FirstBest (leftOut S) (less (G .residual f)) (G .n) i × NotAbove f i
 
   -- no included one is above 5
   abbrev pub NoneAbove : Subset → F → Type 0
@@ -242,7 +235,7 @@ module _ (P : Problem) where
     pub freedom : x .dof ≡ dofOf (receptionsOf P) (usedBy x)
     -- "chi-square not above its limit"
     pub factor : List Float
-    pub whitened : whitenerOver (receptionsOf P) (usedBy x) ≡ found factor
+    pub whitens : whitenerOver (receptionsOf P) (usedBy x) ≡ found factor
     pub consistent : T (not (lt (chi2LimitBy x factor) (x .chi2)))
     -- "it shows the last round's best fit"
     pub shows : (position (h .best .params) ≡ x .ecef) × (transmitM (h .best .params) ≡ x .t)

@@ -13,7 +13,8 @@ use Rattle.sets.specs.Choice.{IsChoice}
 use Rattle.rounds.specs.declared.outliers.Choice.{Choice}
 use Rattle.rounds.specs.declared.outliers.Choices.{Choices}
 use Rattle.rounds.specs.Setting.{five}
-use Rattle.rounds.specs.Rounds.{above, greater, worst, readmissible, less, least}
+use Rattle.rounds.specs.Setting.{greater, less}
+use Rattle.rounds.specs.Rounds.{above, worst, readmissible, least}
 
 -- a choice as the code holds it, its residual beside it: 32 and 0 where there is none
 abbrev pub held : (ℕ → Float) → Option ℕ → Choice

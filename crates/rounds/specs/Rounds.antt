@@ -12,7 +12,7 @@ use Rattle.rounds.specs.declared.answer.Refusal.{Refusal}
 use Rattle.rounds.specs.declared.answer.Refusal.the-variants.{TooFew, Singular}
 use Rattle.rounds.specs.declared.finish.Unpublished.{Unpublished}
 use Rattle.rounds.specs.Setting.{ofUnfit, ofUnpublished, Answer, fix, refused, noFixedPoint, Setting, five, kept}
-use Rattle.rounds.specs.Setting.{survivors}
+use Rattle.rounds.specs.Setting.{survivors, greater, less}
 
 -- ---- the outlier rule: K are kept and S included, of n receptions with the normalised residuals z
 
@@ -20,18 +20,12 @@ use Rattle.rounds.specs.Setting.{survivors}
 abbrev pub above : Subset → (ℕ → Float) → Subset
 above S z i = S i && lt five (z i)
 
-abbrev pub greater : (ℕ → Float) → ℕ → ℕ → Bool
-greater z i j = lt (z j) (z i)
-
 abbrev pub worst : Subset → (ℕ → Float) → ℕ → Option ℕ
 worst S z n = choose (above S z) (greater z) n
 
 -- `readmit`: of those kept but left out and not above 5 the least, the lowest index on ties
 abbrev pub readmissible : Subset → Subset → (ℕ → Float) → Subset
 readmissible K S z i = (K i && not (S i)) && le (z i) five
-
-abbrev pub less : (ℕ → Float) → ℕ → ℕ → Bool
-less z i j = lt (z i) (z j)
 
 abbrev pub least : Subset → Subset → (ℕ → Float) → ℕ → Option ℕ
 least K S z n = choose (readmissible K S z) (less z) n

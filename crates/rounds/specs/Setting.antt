@@ -1,7 +1,8 @@
 -- What the outlier rounds start from, and what they can come to. Definitions only.
+use mathlib.Core.Bool.{Bool}
 use mathlib.Core.Option.{Option}
 use Prim.Native.Nat.{ℕ}
-use lib.Ieee.{Float}
+use lib.Ieee.{Float, lt}
 use Rattle.binary64.specs.Steps.{#}
 use Rattle.sets.specs.Sets.{Subset, count}
 use Rattle.best.specs.declared.Unfit.{Unfit}
@@ -51,6 +52,13 @@ pub record Setting (Q F X : Type 0) : Type 0 where
 -- 5: `OUTLIER_Z`
 abbrev pub five : Float
 five = # 0x4014000000000000
+
+-- of the residuals z, that of i is greater than that of j, or less
+abbrev pub greater : (ℕ → Float) → ℕ → ℕ → Bool
+greater z i j = lt (z j) (z i)
+
+abbrev pub less : (ℕ → Float) → ℕ → ℕ → Bool
+less z i j = lt (z i) (z j)
 
 -- "Kept are the s receptions left when no pair fails the screen; s stays that number throughout."
 module _ {Q F X : Type 0} (G : Setting Q F X) where

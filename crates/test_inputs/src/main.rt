@@ -9,6 +9,7 @@ ghost use Prim.Native.Nat.{_*_, _≤_};
 ghost use lib.ListN.{length};
 ghost use mathlib.Core.Path.{_≡_};
 ghost use Rattle.receptions.specs.Receptions.{receptionBytes, receptionAt, fieldsOf};
+use cases::Compared;
 use cases::Tally;
 use inputs::Check;
 use inputs::Fault;
@@ -105,12 +106,6 @@ fn falsified(header: &[u8; 64], k: u64) -> [u8; 64] {
     other
 }
 
-// Whether a case is answered as expected, and whether as is falsely expected.
-struct Compared {
-    same: bool,
-    same_falsified: bool,
-}
-
 // The case of this header, which is case k and whose files come next, compared.
 fn tried(header: &[u8; 64], k: u64) -> Compared {
     let mut receptions = [0u8; 8200];
@@ -140,31 +135,23 @@ fn next(header: &mut [u8; 64]) -> bool {
     cases::read(header, 64) == 64
 }
 
-fn print(tally: Tally, falsified: Tally) {
+fn print(tally: Tally) {
     io::print_decimal(STDOUT_FILENO, tally.compared);
     io::write_all(STDOUT_FILENO, b" compared, ");
     io::print_decimal(STDOUT_FILENO, tally.differ);
     io::write_all(STDOUT_FILENO, b" differ; ");
-    io::print_decimal(STDOUT_FILENO, falsified.compared);
+    io::print_decimal(STDOUT_FILENO, tally.compared);
     io::write_all(STDOUT_FILENO, b" falsified, ");
-    io::print_decimal(STDOUT_FILENO, falsified.differ);
+    io::print_decimal(STDOUT_FILENO, tally.differ_falsified);
     io::write_all(STDOUT_FILENO, b" differ\n");
 }
 
 fn main() {
     let mut header = [0u8; 64];
-    let mut tally = Tally {
-        compared: 0,
-        differ: 0,
-    };
-    let mut falsified = Tally {
-        compared: 0,
-        differ: 0,
-    };
-    while tally.compared < cases::MOST && falsified.compared < cases::MOST && next(&mut header) {
+    let mut tally = Tally::none();
+    while tally.compared < cases::MOST && next(&mut header) {
         let found = tried(&header, tally.compared);
-        tally = tally.with(found.same);
-        falsified = falsified.with(found.same_falsified);
+        tally = tally.with(found);
     }
-    print(tally, falsified);
+    print(tally);
 }

@@ -1,5 +1,6 @@
--- What the arrays hold that a fit lends to each of its steps: they have room, and bring what the step before left.
--- Definitions only.
+-- What code merely holds: the arrays that a fit lends to each of its steps, which have room and bring what the step
+-- before left; the place of the altitude's row; the sum of squares after some turns; chosen receptions made of lent
+-- arrays. Nothing that must be believed cites it. Definitions only.
 use mathlib.Core.Path.{_≡_}
 use mathlib.Core.List.{List}
 use Prim.Native.Nat.{ℕ, _<_, zero, suc}
@@ -32,14 +33,14 @@ Scratch r squared ranges a b c d =
 
 -- `whitenedColumn` over what an array held in the place of zeros: what lies past the k rows stays
 abbrev pub columnOver : Chosen → List Float → ℕ → List Float → List Float
-columnOver P p j held = forward (P .whitener) (P .k) (fillTo held (raw (P .sites) (P .z) p j) (P .k))
+columnOver C p j held = forward (C .whitener) (C .k) (fillTo held (raw (C .sites) (C .z) p j) (C .k))
 
 -- `whitened` over what five arrays held
 abbrev pub over : Chosen → List Float → Rows → Rows
-over P p held =
-    pushAltitude (P .altitude) (fromEcef (position p))
-    (rows (P .k) (columnOver P p 0 (held .r)) (columnOver P p 1 (held .a)) (columnOver P p 2 (held .b))
-    (columnOver P p 3 (held .c)) (columnOver P p 4 (held .d)))
+over C p held =
+    pushAltitude (C .altitude) (fromEcef (position p))
+    (rows (C .k) (columnOver C p 0 (held .r)) (columnOver C p 1 (held .a)) (columnOver C p 2 (held .b))
+    (columnOver C p 3 (held .c)) (columnOver C p 4 (held .d)))
 
 -- the place of the altitude's row: `geo::from_ecef(x)`, which is asked for where there is an altitude; zeros stand for
 -- it elsewhere
