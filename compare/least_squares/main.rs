@@ -88,15 +88,18 @@ impl Tally {
         if let Some(factor) = factor {
             self.array("whitener", at, &l, &filled::<1024>(&factor.l, 0.0));
         }
-        for i in 0..*n {
-            self.number("sigma", at, unsafe { port::fit_sigma(clock_m2, *n, noise_m2, i) }, problem.sigma(i));
+        let mut sigmas = [MARK; 32];
+        unsafe { port::fit_sigmas(clock_m2, *n, noise_m2, &mut sigmas) };
+        for (i, sigma) in sigmas.iter().take(*n).enumerate() {
+            self.number("sigma", at, *sigma, problem.sigma(i));
         }
     }
 
     fn residuals(&mut self, at: u64, problem: &Problem, chosen: &Chosen, subset: &[usize], params: &Params) {
+        let mut ranges = [MARK; 32];
+        unsafe { port::fit_ranges(&chosen.sites, chosen.k, params, &mut ranges) };
         for (i, index) in subset.iter().enumerate() {
-            let port = unsafe { port::fit_residual(&chosen.sites, &chosen.z, i, params) };
-            self.number("residual", at, port, problem.residual(*index, params));
+            self.number("residual", at, chosen.z[i] - params[3] - ranges[i], problem.residual(*index, params));
         }
     }
 

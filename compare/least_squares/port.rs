@@ -4,8 +4,8 @@
 extern "C" {
     pub fn fit_covariance(clock_m2: &[f64; 1024], n: usize, noise_m2: &[f64; 32], index: &[usize; 32], k: usize, sigma: &mut [f64; 1024]);
     pub fn fit_whitener(clock_m2: &[f64; 1024], n: usize, noise_m2: &[f64; 32], index: &[usize; 32], k: usize, l: &mut [f64; 1024]) -> bool;
-    pub fn fit_sigma(clock_m2: &[f64; 1024], n: usize, noise_m2: &[f64; 32], i: usize) -> f64;
-    pub fn fit_residual(sites: &[f64; 96], z: &[f64; 32], i: usize, params: &[f64; 4]) -> f64;
+    pub fn fit_sigmas(clock_m2: &[f64; 1024], n: usize, noise_m2: &[f64; 32], sigmas: &mut [f64; 32]);
+    pub fn fit_ranges(sites: &[f64; 96], k: usize, params: &[f64; 4], ranges: &mut [f64; 32]);
     pub fn fit_whitened(
         sites: &[f64; 96], z: &[f64; 32], k: usize, l: &[f64; 1024], kind: u32, metres: f64, params: &[f64; 4],
         r: &mut [f64; 33], a: &mut [f64; 33], b: &mut [f64; 33], c: &mut [f64; 33], d: &mut [f64; 33],

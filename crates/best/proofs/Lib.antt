@@ -1,5 +1,6 @@
 -- The laws of the best fit, for this crate and those above it.
 pub mod Constants
+pub mod Squares
 pub mod Order
 pub mod Passes
 pub mod Judging

@@ -36,8 +36,10 @@ use linalg::Cholesky;
 use norm::norm;
 use problem::Altitude;
 
-// The farthest a solution may be from a receiver that heard it, metres: of solve.rs.
-const MAX_RANGE_M: f64 = 600_000.0;
+// The last binary64 whose root is at most 600,000, the farthest a solution may be from a receiver that
+// heard it, metres (`MAX_RANGE_M` of solve.rs): so no root is taken to test a range.
+const MAX_RANGE_SQUARED: f64 = 360_000_000_000.00006103515625;
+
 // What another fit may cost more than the best and still be weighed against it: of solve.rs.
 const AMBIGUOUS_COST: f64 = 9.0;
 
@@ -85,7 +87,8 @@ fn near(sites: &[f64; 96], i: usize, x: [f64; 3]) -> bool
     requires { ⌜ i < 32 ⌝ }
     ensures { λ r. ⌜ r ≡ le (range (now (sites .entry)) x i) maxRangeM ⌝ }
 {
-    linalg::norm(linalg::sub(x, problem::site(sites, i))) <= MAX_RANGE_M
+    let delta = linalg::sub(x, problem::site(sites, i));
+    linalg::dot(delta, delta) <= MAX_RANGE_SQUARED
 }
 
 fn all_near(sites: &[f64; 96], k: usize, x: [f64; 3]) -> bool

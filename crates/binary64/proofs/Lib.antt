@@ -28,4 +28,5 @@ pub mod Tail
 pub mod Own
 pub mod Quotient
 pub mod RootBounds
+pub mod RootTest
 pub mod Numbers

@@ -25,7 +25,7 @@ coarse m j h l = ap (λ (x : ℕ). m * x) (ap (λ (x : ℕ). 2 ^ x) (sum j h l) 
     sum : (j h : ℕ) → h ≤ j → j ≡ j - h + h
     sum j h l = omega arith
 
-fine : (m j h : ℕ) → m < 2 ^ 53 → j < h → m * 2 ^ j < 2 ^ 52 * 2 ^ h
+pub fine : (m j h : ℕ) → m < 2 ^ 53 → j < h → m * 2 ^ j < 2 ^ 52 * 2 ^ h
 fine m j h a l = lt-of-lt-of-le (shl-lt 53 j a) (le-trans (pow-mono {i = 53 + j} {j = 52 + h} (omega arith)) (le-of-eq (pow-add 2 52 h)))
 
 -- squares of a multiple c of P

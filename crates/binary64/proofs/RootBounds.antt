@@ -46,7 +46,7 @@ module _ (lo hi xl xh : Float) where
       && (ltb 0 (P binary64 xl)
       && (leb (P binary64 lo * P binary64 lo) (P binary64 xl * 2 ^ 1074) && leb (P binary64 xh * 2 ^ 1074) (P binary64 hi * P binary64 hi)))
 
-value-finite : (x : Float) (a : ℕ) → HasUnits x false a → T (finite x)
+pub value-finite : (x : Float) (a : ℕ) → HasUnits x false a → T (finite x)
 value-finite nan a h = absurd h
 value-finite (inf s) a h = absurd h
 value-finite (fin s m e) a h = tt

@@ -32,26 +32,7 @@ pub enum Turn {
     Settles,
 }
 
-// The normalised residual of reception i at the parameters.
-fn normalised(
-    site: &[f64; 96],
-    z: &[f64; 32],
-    noise: &[f64; 32],
-    clock: &[f64; 1024],
-    n: usize,
-    params: [f64; 4],
-    i: usize,
-) -> f64
-    requires { ⌜ (n ≤ 32) × (i < n) ⌝ }
-    ensures { λ r. ⌜ ((altitude : Altitude) → r
-        ≡ normalised (receptions (now (site .entry)) (now (z .entry)) (now (noise .entry)) (now (clock .entry)) n
-        altitude) params i) ⌝ }
-{
-    let raw = whitening::residual(site, z, i, params);
-    binary64::abs(raw) / whitening::sigma(clock, n, noise, i)
-}
-
-// Those of all n, in an array of zeros.
+// The normalised residuals of all n receptions at the parameters, in an array of zeros.
 pub fn residuals(
     site: &[f64; 96],
     z: &[f64; 32],
@@ -66,9 +47,14 @@ pub fn residuals(
         (receptions (now (site .entry)) (now (z .entry)) (now (noise .entry)) (now (clock .entry))
         n altitude) params) n) ⌝ }
 {
+    let x = [params[0], params[1], params[2]];
+    let mut squared = [0.0; 32];
+    let mut ranges = [0.0; 32];
+    whitening::ranges_of(site, n, x, &mut squared, &mut ranges);
+    let sigmas = whitening::sigmas(clock, n, noise);
     let mut out = [0.0; 32];
     for i in 0..n {
-        out[i] = normalised(site, z, noise, clock, n, params, i);
+        out[i] = binary64::abs(z[i] - params[3] - ranges[i]) / sigmas[i];
     }
     out
 }

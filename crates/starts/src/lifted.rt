@@ -1,10 +1,6 @@
 // The start above the receivers' centroid, and the ring of starts about it.
 ghost use mathlib.Core.Path.{_≡_};
 ghost use Prim.Native.Nat.{_<_, _≤_};
-ghost use Rattle.binary64.specs.Steps.{_⊖_};
-ghost use Rattle.dense.specs.Entries.{nth};
-ghost use Rattle.linalg.specs.Vec3.{sub, norm};
-ghost use Rattle.problem.specs.Problem.{siteAt};
 ghost use Rattle.starts.specs.Held.{packed};
 ghost use Rattle.starts.specs.Lifted.{size, centroid, timed, lifted, bearing, ringPlace, circleTo, ring};
 use crate::Points;
@@ -47,22 +43,17 @@ pub fn centroid(sites: &[f64; 96], k: usize) -> [f64; 3]
     sum
 }
 
-// The transmit time that reception i gives the place x.
-fn sent(sites: &[f64; 96], z: &[f64; 32], x: [f64; 3], i: usize) -> f64
-    requires { ⌜ i < 32 ⌝ }
-    ensures { λ r. ⌜ r ≡ nth (now (z .entry)) i ⊖ norm (sub x (siteAt (now (sites .entry)) i)) ⌝ }
-{
-    z[i] - linalg::norm(linalg::sub(x, problem::site(sites, i)))
-}
-
-// The place x with the mean of those times.
+// The place x with the mean of the transmit times that k receptions give it.
 fn timed(sites: &[f64; 96], z: &[f64; 32], k: usize, x: [f64; 3]) -> [f64; 4]
     requires { ⌜ k ≤ 32 ⌝ }
     ensures { λ r. ⌜ r ≡ timed (now (sites .entry)) (now (z .entry)) k x ⌝ }
 {
+    let mut squared = [0.0; 32];
+    let mut ranges = [0.0; 32];
+    whitening::ranges_of(sites, k, x, &mut squared, &mut ranges);
     let mut sum = 0.0;
     for i in 0..k {
-        sum = sum + sent(sites, z, x, i);
+        sum = sum + (z[i] - ranges[i]);
     }
     let t = sum / size(k);
     [x[0], x[1], x[2], t]

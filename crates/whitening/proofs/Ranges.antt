@@ -1,4 +1,4 @@
--- Ranges by the roots of their squares. Assumes nothing.
+-- Ranges by the roots of their squares, and standard deviations by those of variances. Assumes nothing.
 use mathlib.Core.Path.{_≡_, refl, ap, ap₂, _∙_}
 use mathlib.Core.Logic.{inl, inr}
 use mathlib.Core.List.{List}

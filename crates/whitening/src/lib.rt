@@ -8,7 +8,7 @@ mod timing;
 
 pub use rows::place;
 pub use rows::push_height;
-pub use rows::residual;
+pub use rows::ranges_of;
 pub use rows::residuals;
 pub use rows::row_place;
 pub use rows::whitened;
@@ -18,7 +18,7 @@ pub use sums::normal;
 pub use sums::plus_multiple;
 pub use sums::plus_products;
 pub use timing::covariance;
-pub use timing::sigma;
+pub use timing::sigmas;
 pub use timing::whitener;
 
 // The normal equations of a fit: the information (4 x 4, row by row), the gradient and the cost.

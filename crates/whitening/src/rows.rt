@@ -8,8 +8,8 @@ ghost use mathlib.Core.List.{List, []};
 ghost use lib.Ieee.{Float};
 ghost use Rattle.binary64.specs.Root.{root};
 ghost use Rattle.geo.specs.Geo.{fromEcef};
-ghost use Rattle.problem.specs.Problem.{position};
-ghost use Rattle.whitening.specs.Whitened.{rangeAt, residual, fillTo, raw, pushAltitude};
+ghost use Rattle.problem.specs.Problem.{position, range};
+ghost use Rattle.whitening.specs.Whitened.{rangeAt, fillTo, raw, pushAltitude};
 ghost use Rattle.whitening.specs.Whitened.{noRows, rows, whitened};
 ghost use Rattle.whitening.specs.Held.{Ranged, rowPlace, costTo, chosen};
 use crate::slopes::slopes;
@@ -22,47 +22,29 @@ pub const BARO_SIGMA_M: f64 = 100.0;
 // One standard deviation of a GNSS height, metres: of solve.rs.
 pub const GNSS_SIGMA_M: f64 = 15.0;
 
-// The range of one reception from the place of the parameters p, metres.
-fn range(sites: &[f64; 96], i: usize, p: [f64; 4]) -> f64
+// The square of a reception's range from the place x.
+fn squared_range(sites: &[f64; 96], i: usize, x: [f64; 3]) -> f64
     requires { ⌜ i < 32 ⌝ }
-    ensures { λ r. ⌜ r ≡ rangeAt (now (sites .entry)) p i ⌝ }
+    ensures { λ r. ⌜ root r ≡ range (now (sites .entry)) x i ⌝ }
 {
-    let x = [p[0], p[1], p[2]];
-    linalg::norm(linalg::sub(x, problem::site(sites, i)))
-}
-
-// The raw residual of one reception at the parameters p, metres.
-pub fn residual(sites: &[f64; 96], z: &[f64; 32], i: usize, p: [f64; 4]) -> f64
-    requires { ⌜ i < 32 ⌝ }
-    ensures { λ r. ⌜ r ≡ residual (now (sites .entry)) (now (z .entry)) p i ⌝ }
-{
-    z[i] - p[3] - range(sites, i, p)
-}
-
-// The square of a reception's range.
-fn squared_range(sites: &[f64; 96], i: usize, p: [f64; 4]) -> f64
-    requires { ⌜ i < 32 ⌝ }
-    ensures { λ r. ⌜ root r ≡ rangeAt (now (sites .entry)) p i ⌝ }
-{
-    let x = [p[0], p[1], p[2]];
     let delta = linalg::sub(x, problem::site(sites, i));
     linalg::dot(delta, delta)
 }
 
-// The ranges of k receptions, their roots taken together.
-fn ranges_of(
+// The ranges of k receptions from the place x, metres, their roots taken together.
+pub fn ranges_of(
     sites: &[f64; 96],
     k: usize,
-    p: [f64; 4],
+    x: [f64; 3],
     squared: &mut [f64; 32],
     ranges: &mut [f64; 32],
 )
     requires { ⌜ (k ≤ 32) × (length (now squared) ≡ 32) ⌝ }
     ensures { λ _. ⌜ length (now (squared .exit)) ≡ 32 ⌝ }
-    ensures { λ _. ⌜ now (ranges .exit) ≡ fillTo (now (ranges .entry)) (rangeAt (now (sites .entry)) p) k ⌝ }
+    ensures { λ _. ⌜ now (ranges .exit) ≡ fillTo (now (ranges .entry)) (range (now (sites .entry)) x) k ⌝ }
 {
     for i in 0..k {
-        squared[i] = squared_range(sites, i, p);
+        squared[i] = squared_range(sites, i, x);
     }
     binary64::roots(&*squared, k, &mut *ranges);
 }
@@ -82,7 +64,8 @@ fn raw_residuals(
     ensures { λ _. ⌜ length (now (squared .exit)) ≡ 32 ⌝ }
     ensures { λ _. ⌜ now (ranges .exit) ≡ fillTo (now (ranges .entry)) (rangeAt (now (sites .entry)) p) k ⌝ }
 {
-    ranges_of(sites, k, p, &mut *squared, &mut *ranges);
+    let x = [p[0], p[1], p[2]];
+    ranges_of(sites, k, x, &mut *squared, &mut *ranges);
     for i in 0..k {
         r[i] = z[i] - p[3] - ranges[i];
     }

@@ -2,9 +2,13 @@
 // on the diagonal plus the clock covariance.
 ghost use mathlib.Core.Path.{_≡_};
 ghost use Prim.Native.Nat.{ℕ, _-_, _<_, _≤_};
+ghost use lib.ListN.{replicate};
+ghost use Rattle.binary64.specs.Steps.{nought};
+ghost use Rattle.binary64.specs.Root.{root};
 ghost use Rattle.dense.specs.Held.{verdict};
 ghost use Rattle.linalg.specs.Held.{matrix};
 ghost use Rattle.problem.specs.Gathered.{pick};
+ghost use Rattle.whitening.specs.Whitened.{fillTo};
 ghost use Rattle.whitening.specs.Covariance.{shared, covarianceRowTo, covariance, sigma, whitener};
 use linalg::Matrix;
 
@@ -71,13 +75,27 @@ pub fn covariance(
     sigma
 }
 
-// One reception's standard deviation, metres: the root of its diagonal entry.
-pub fn sigma(clock: &[f64; 1024], n: usize, noise: &[f64; 32], i: usize) -> f64
+// One reception's variance, square metres: its diagonal entry.
+fn variance(clock: &[f64; 1024], n: usize, noise: &[f64; 32], i: usize) -> f64
     requires { ⌜ (n ≤ 32) × (i < n) ⌝ }
-    ensures { λ r. ⌜ r ≡ sigma (now (clock .entry)) n (now (noise .entry)) i ⌝ }
+    ensures { λ r. ⌜ root r ≡ sigma (now (clock .entry)) n (now (noise .entry)) i ⌝ }
 {
-    let shared = dense::at(clock, n, i, i);
-    binary64::sqrt(shared + noise[i])
+    dense::at(clock, n, i, i) + noise[i]
+}
+
+// The standard deviations of all n receptions, metres, in an array of zeros: the roots of their variances,
+// taken together.
+pub fn sigmas(clock: &[f64; 1024], n: usize, noise: &[f64; 32]) -> [f64; 32]
+    requires { ⌜ n ≤ 32 ⌝ }
+    ensures { λ r. ⌜ r ≡ fillTo (replicate 32 nought) (sigma (now (clock .entry)) n (now (noise .entry))) n ⌝ }
+{
+    let mut variances = [0.0; 32];
+    let mut out = [0.0; 32];
+    for i in 0..n {
+        variances[i] = variance(clock, n, noise, i);
+    }
+    binary64::roots(&variances, n, &mut out);
+    out
 }
 
 // The Cholesky factor of the covariance, into the array of a `Cholesky` of size k; false where a pivot is

@@ -1,6 +1,11 @@
--- `best::near` meets its contract. The range is the norm of a difference, by what the three calls ensure. Assumes nothing.
+-- `best::near` meets its contract. The range is the root of what `dot` gives, by what the three calls ensure, and the test of the root is that of the
+-- square (`near-is`). Assumes nothing.
 use borrow.Author.Needs.{needs}
+use mathlib.Core.Path.{sym}
+use Rattle.linalg.specs.Vec3.{sub}
+use Rattle.problem.specs.Problem.{siteAt}
 use Rattle.best.proofs.Constants.{farthest}
+use Rattle.best.proofs.Squares.{near-is}
 use Rattle.best.proofs.near.Statement.{statement}
 use Rattle.best.proofs.near.Tie as tie
 
@@ -10,11 +15,14 @@ site-requires c κs = search needs
 sub-requires : tie.Need-sub-requires
 sub-requires c κs = search needs
 
-norm-requires : tie.Need-norm-requires
-norm-requires c κs = search needs
+dot-requires : tie.Need-dot-requires
+dot-requires c κs = search needs
 
 returns : tie.Need-returns
-returns c = rw (farthest, c .norm .ensures, c .before .sub .ensures, c .before .before .site .ensures)
+returns c =
+    let s = c .before .before .before .args in
+    rw (farthest, c .dot .ensures, c .before .sub .ensures, c .before .before .site .ensures)
+    (sym (near-is (sub (s .x) (siteAt (s .sites .now) (s .i)))))
 
 pub near-spec : {M : Type 1} → statement M
 near-spec =
@@ -22,5 +30,5 @@ near-spec =
     (tie.spec
     site-requires
     sub-requires
-    norm-requires
+    dot-requires
     returns)

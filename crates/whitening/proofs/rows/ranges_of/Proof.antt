@@ -5,16 +5,16 @@ use mathlib.Core.Path.{_≡_, _∙_}
 use Prim.Native.Nat.{_≤_, _<_, _-_}
 use native.Mathlib.Omega.{arith}
 use lib.ListN.{length, length-set}
-use Rattle.whitening.specs.Whitened.{rangeAt}
+use Rattle.problem.specs.Problem.{range}
 use Rattle.whitening.proofs.Ranges.{Squared, one-more, roots-fill}
 use Rattle.whitening.proofs.rows.ranges_of.Statement.{statement}
 use Rattle.whitening.proofs.rows.ranges_of.Tie as tie
 
 abbrev Inv-loop : tie.InvT-loop
-Inv-loop sites k p squared₀ ranges i₀ squared i = (i ≤ k) × (length squared ≡ 32) × Squared squared (rangeAt sites p) i
+Inv-loop sites k x squared₀ ranges i₀ squared i = (i ≤ k) × (length squared ≡ 32) × Squared squared (range sites x) i
 
 abbrev μ-loop : tie.MeasureT-loop
-μ-loop sites k p squared₀ ranges i₀ squared i = k - i
+μ-loop sites k x squared₀ ranges i₀ squared i = k - i
 
 loop-holds : tie.Need-loop-holds Inv-loop μ-loop
 loop-holds c = (omega arith, c .pre .1, λ j h. absurd (omega arith))
@@ -39,7 +39,7 @@ loop-again c =
     let l = c .before .before .loop in
     let s = c .before .before .before .args in
     let here : l .i < length (l .squared) = omega arith in
-    let next = one-more (l .squared) (rangeAt (s .sites .now) (s .p)) (l .i) _ here (l .inv .2) (c .squared-range .ensures) in
+    let next = one-more (l .squared) (range (s .sites .now) (s .x)) (l .i) _ here (l .inv .2) (c .squared-range .ensures) in
     (omega arith, length-set (l .squared) (l .i) _ ∙ l .inv .1, next)
 
 roots-requires : tie.Need-roots-requires Inv-loop μ-loop
@@ -50,7 +50,7 @@ returns c =
     let l = c .before .before .before .before .loop in
     let s = c .before .before .before .before .before .args in
     let all : l .i ≡ s .k = omega arith in
-    (l .inv .1, c .roots .ensures ∙ roots-fill (l .squared) (s .ranges .now) (rangeAt (s .sites .now) (s .p)) (s .k) (rw all at (l .inv .2)))
+    (l .inv .1, c .roots .ensures ∙ roots-fill (l .squared) (s .ranges .now) (range (s .sites .now) (s .x)) (s .k) (rw all at (l .inv .2)))
 
 pub ranges-of-spec : {M : Type 1} → statement M
 ranges-of-spec =

@@ -19,6 +19,15 @@ Inv-loop sites z k r₀ squared ranges p i₀ r i = (i ≤ k) × (r ≡ fillTo r
 abbrev μ-loop : tie.MeasureT-loop
 μ-loop sites z k r₀ squared ranges p i₀ r i = k - i
 
+array-read-t13 : tie.Need-array-read-t13 Inv-loop μ-loop
+array-read-t13 c = search needs
+
+array-read-t16 : tie.Need-array-read-t16 Inv-loop μ-loop
+array-read-t16 c = search needs
+
+array-read-t19 : tie.Need-array-read-t19 Inv-loop μ-loop
+array-read-t19 c = search needs
+
 ranges-of-requires : tie.Need-ranges-of-requires Inv-loop μ-loop
 ranges-of-requires c κs = search needs
 
@@ -77,6 +86,9 @@ raw-residuals-spec =
     (tie.spec
     Inv-loop
     μ-loop
+    array-read-t13
+    array-read-t16
+    array-read-t19
     ranges-of-requires
     loop-holds
     mul-r

@@ -4,15 +4,6 @@ use borrow.Author.Needs.{needs}
 use Rattle.whitening.proofs.rows.squared_range.Statement.{statement}
 use Rattle.whitening.proofs.rows.squared_range.Tie as tie
 
-array-read-t9 : tie.Need-array-read-t9
-array-read-t9 c = search needs
-
-array-read-t12 : tie.Need-array-read-t12
-array-read-t12 c = search needs
-
-array-read-t15 : tie.Need-array-read-t15
-array-read-t15 c = search needs
-
 site-requires : tie.Need-site-requires
 site-requires c κs = search needs
 
@@ -29,9 +20,6 @@ pub squared-range-spec : {M : Type 1} → statement M
 squared-range-spec =
     tie.close
     (tie.spec
-    array-read-t9
-    array-read-t12
-    array-read-t15
     site-requires
     sub-requires
     dot-requires
