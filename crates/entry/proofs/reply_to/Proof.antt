@@ -56,7 +56,7 @@ solve-lent-requires c κs =
     let check = made .before .before .before .check-inputs in
     let I = lent s (s .pre .0) (made .before .before .before .before .given .result) in
     let small = few I (sym (check .ensures (s .pre .0) (s .pre .1)) ∙ is-passed (check .result) (made .before .before .match .keys2)) in
-    made .problem-of .ensures (s .pre .0) (s .pre .1 small) .inDomain .few
+    made .problem-of .ensures (s .pre .0) (s .pre .1 small) .inDomain .most
 
 cast-answered : tie.Need-cast-answered
 cast-answered c =

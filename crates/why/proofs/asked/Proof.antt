@@ -53,7 +53,7 @@ solve-problem-requires c κs =
     let I = lent s (some .0) (c .before .before .before .before .given .result) in
     let check = c .before .before .before .check-inputs in
     let small = few I (sym (check .ensures (some .0) (some .1)) ∙ is-passed (check .result) (c .before .before .match .keys2)) in
-    c .problem-of .ensures (some .0) (some .1 small) .inDomain .few
+    c .problem-of .ensures (some .0) (some .1 small) .inDomain .most
 
 explained-requires : tie.Need-explained-requires
 explained-requires c κs =
