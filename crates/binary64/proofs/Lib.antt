@@ -30,3 +30,4 @@ pub mod Quotient
 pub mod RootBounds
 pub mod RootTest
 pub mod Numbers
+pub mod Finite

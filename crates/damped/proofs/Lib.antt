@@ -5,3 +5,5 @@ pub mod Turns
 pub mod Squares
 pub mod Limit
 pub mod Carried
+pub mod Formatted
+pub mod CostSign

@@ -6,3 +6,4 @@ pub mod Outputs
 pub mod Records
 pub mod Correction
 pub mod Unmoved
+pub mod Published

@@ -34,7 +34,7 @@ module _ (I : Inputs) (passes : checkInputs I ≡ Passed) where
   unfolding problemOf
   small = few I passes
 
-  shown : reply I .bytes ≡ recordOf (problemOf I .n) (problemOf I .shown) (solveProblem (problemOf I))
+  pub shown : reply I .bytes ≡ recordOf (problemOf I .n) (problemOf I .shown) (solveProblem (problemOf I))
   unfolding reply problemOf
   shown = ap (λ (c : Check). replied c I .bytes) passes
 
@@ -52,7 +52,7 @@ module _ (I : Inputs) (passes : checkInputs I ≡ Passed) where
         subst (λ (y : Fix). SFits w64 (y .«transmit_ps»)) (sym (p .shows))
         (held-fits (transmit (problemOf I .«reference_ps») (demand-met (problemOf I) small .claim .fixed x .0 e .best)) (T→eq _ (p .inI64)))
 
-    stands : Stands (recordOf (problemOf I .n) (problemOf I .shown) (fix x)) (problemOf I .n) (problemOf I .shown) x
+    pub stands : Stands (recordOf (problemOf I .n) (problemOf I .shown) (fix x)) (problemOf I .n) (problemOf I .shown) x
     stands = fix-stands (problemOf I .n) (problemOf I .shown) x (omega (arith, small)) free few-used in-time
 
   pub written : (r : Reply) (out after : List ℕ) → r ≡ reply I → length (r .bytes) ≡ 176 → after ≡ stored out (r .bytes)

@@ -6,3 +6,5 @@ pub mod Cast
 pub mod Edges
 pub mod Places
 pub mod Meaning
+pub mod Centre
+pub mod OnEarth

@@ -55,13 +55,13 @@ roots-pass : T (roots least most least most)
 unfolding round
 roots-pass = tt
 
-abbrev short : Float
+abbrev pub short : Float
 short = decimal 6000000 0
 
-abbrev long : Float
+abbrev pub long : Float
 long = decimal 7000000 0
 
-prime-in : (s : Float) → Unit-in s → In binary64 short long (primeVertical s)
+pub prime-in : (s : Float) → Unit-in s → In binary64 short long (primeVertical s)
 unfolding primeVertical A E2 F round div le fits
 prime-in s i =
     let x = check-sound least most squared-steps (range (neg one) one ∷ []) (s ∷ []) (i, tt) squared-passes in
@@ -98,7 +98,7 @@ over-positive : (c v : Float) → T (positive c) → Is binary64 v → T (le c v
 over-positive c v p q l = above-positive v (above-of-le c v p l) (q .1)
 
 -- a zero of either sign
-abbrev Zero : Float → Type 0
+abbrev pub Zero : Float → Type 0
 Zero v = (v ≡ nought) ⊎ (v ≡ neg nought)
 
 zero-of : (v : Float) → Is binary64 v → abs v ≡ nought → Zero v
@@ -137,7 +137,7 @@ part-passes : T (check (decimal 40000 0) (decimal 47000 0) (lit E2 ∷ times 0 1
 unfolding E2 F round sub mul div le fits ofBits
 part-passes = tt
 
-arc-limit : (v : Float) → In binary64 (neg arc2) arc2 v → In binary64 (neg limit) limit v
+pub arc-limit : (v : Float) → In binary64 (neg arc2) arc2 v → In binary64 (neg limit) limit v
 unfolding ofBits round neg le fits
 arc-limit v i = weak (neg limit) limit (neg arc2) arc2 v (tt, tt) (tt, tt) tt tt i
 
@@ -338,10 +338,10 @@ rounds-number x y z p q r n k = elim (hypot-long x y p q) [
 ]
 
 -- ---- the centre: the first round divides by 0, and multiplies 0 by an infinity
-zero-test : (v : Float) → T (fits binary64 v) → T (eq v nought) → Zero v
+pub zero-test : (v : Float) → T (fits binary64 v) → T (eq v nought) → Zero v
 zero-test v f t = zero-in-of v (zero-in v f (is-true _ t))
 
-no-length : (x y : Float) → Zero x → Zero y → hypot x y ≡ nought
+pub no-length : (x y : Float) → Zero x → Zero y → hypot x y ≡ nought
 unfolding hypot scaled high abs neg sub add mul lt eq ofBits toBits
 no-length x y (inl e) (inl d) = ap (λ (v : Float). hypot v y) e ∙ ap (hypot nought) d
 no-length x y (inl e) (inr d) = ap (λ (v : Float). hypot v y) e ∙ ap (hypot nought) d

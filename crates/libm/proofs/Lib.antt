@@ -17,3 +17,4 @@ pub mod SubnormalBounds
 pub mod LengthBounds
 pub mod Meaning
 mod Worked
+pub mod Arcs

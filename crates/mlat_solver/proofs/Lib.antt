@@ -6,3 +6,4 @@ pub mod Returned
 pub mod Display
 pub mod Written
 pub mod Solved
+pub mod Published

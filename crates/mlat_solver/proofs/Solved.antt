@@ -51,7 +51,7 @@ module _ (s : List ℕ) (bytes : Bytes s) (sized : length s ≡ 176) (rules : Ru
 
 -- ---- a refusal
 
-told-refuses : {k d : ℕ} → Told k d → k ≡ 0 → ⊥
+pub told-refuses : {k d : ℕ} → Told k d → k ≡ 0 → ⊥
 told-refuses (few h) e = omega arith
 told-refuses (disorder g h) e = omega arith
 told-refuses (badField h) e = omega arith
@@ -138,10 +138,10 @@ written-moves k s (refused d n t h e) f = subst Moves (sym e) (refusal-moves k d
 written-moves k s (fixed n alt x z h e) f = subst Moves (sym e) (fix-moves n alt x h (subst FiniteFloats e (f z)))
 
 module _ (I : Inputs) (out : List ℕ) (lent : 176 ≤ length out) where
-  answered : answer I out ≡ reply I .number
+  pub answered : answer I out ≡ reply I .number
   answered = rw (le-ltb (length out) 176 lent)
 
-  is-record : solvedRecord I out ≡ reply I .bytes
+  pub is-record : solvedRecord I out ≡ reply I .bytes
   is-record =
       rw (le-ltb (length out) 176 lent)
       (take-at (reply I .bytes) (drop 176 out) 176 (written-sized (reply I .number) (reply I .bytes) (reply-written I)))

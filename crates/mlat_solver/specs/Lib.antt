@@ -7,3 +7,4 @@ pub mod Positions
 pub mod Displays
 pub mod Solved
 pub mod Version
+pub mod Published

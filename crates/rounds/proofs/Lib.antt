@@ -21,3 +21,5 @@ pub mod Shown
 pub mod Capped
 pub mod Members
 pub mod Unread
+pub mod Definite
+pub mod Published

@@ -23,6 +23,7 @@ use Rattle.rounds.specs.declared.outliers.Turn.the-variants.{Ends, Chang
 use Rattle.rounds.specs.Setting.{refused, noFixedPoint, Setting, kept, survivors}
 use Rattle.rounds.specs.Rounds.{Step, ends, changes, settles, closed, round, answerAfter, roundsTo, outlierRounds}
 use Rattle.rounds.specs.Solve.{keptAt, settingOf, solveProblem}
+use Rattle.rounds.specs.Unmoved.{capped}
 use Rattle.rounds.specs.Held.{previousOf, stepOf}
 use Rattle.rounds.proofs.Choices.{Within}
 use Rattle.rounds.proofs.Steps.{Says, round-says}
@@ -33,30 +34,34 @@ module _ (R : Receptions) (mask : ℕ) (reference : ℤ) (N : R .n ≤ 32) where
   P = settingOf R (has mask) reference
 
   -- what is left after the rounds so far: the included receptions are kept ones, and so many rounds more give the answer
-  pub record Left (j : ℕ) (s : State) : Type 0 where
-    pub answers : outlierRounds P ≡ roundsTo P j (has (s .included)) (previousOf s)
+  pub record Left (cap j : ℕ) (s : State) : Type 0 where
+    pub answers : capped P cap ≡ roundsTo P j (has (s .included)) (previousOf s)
     pub keeps : Within P (has (s .included))
 
-  left : (j : ℕ) (S : Subset) (p : Option (List Float)) (s : State) → has (s .included) ≡ S → previousOf s ≡ p → outlierRounds P ≡ roundsTo P j S p
-      → Within P S → Left j s
-  left j S p s e q a w = record {
+  left : (cap j : ℕ) (S : Subset) (p : Option (List Float)) (s : State) → has (s .included) ≡ S → previousOf s ≡ p → capped P cap ≡ roundsTo P j S p
+      → Within P S → Left cap j s
+  left cap j S p s e q a w = record {
     answers = a ∙ ap₂ (λ (A : Subset) (o : Option (List Float)). roundsTo P j A o) (sym e) (sym q);
     keeps = subst (Within P) (sym e) w;
   }
 
-  pub left-start : (s : State) (c : ℕ) → s ≡ record { included = mask; had = false; previous = replicate 4 nought } → mask < 2 ^ R .n → c
-      ≡ count (has mask) 32 → Left (2 * c + 2 - 0) s
+  pub left-start : (s : State) (cap : ℕ) → s ≡ record { included = mask; had = false; previous = replicate 4 nought } → Left cap (cap - 0) s
+  left-start s cap i =
+      left cap (cap - 0) (kept P) none s (ap (λ (x : State). has (x .included)) i) (ap previousOf i)
+      (ap (λ (j : ℕ). roundsTo P j (kept P) none) (let d : cap ≡ cap - 0 = omega arith in d)) (λ j t. t)
+
+  -- the cap of the solve
+  pub solve-cap : (c : ℕ) → mask < 2 ^ R .n → c ≡ count (has mask) 32 → capped P (2 * c + 2) ≡ outlierRounds P
   unfolding outlierRounds
-  left-start s c i m h =
+  solve-cap c m h =
       let t : count (kept P) (R .n) ≡ c = sym (count-within (R .n) mask m N) ∙ sym h in
-      let d : 2 * survivors P + 2 ≡ 2 * c + 2 - 0 = omega (arith, t) in
-      left (2 * c + 2 - 0) (kept P) none s (ap (λ (x : State). has (x .included)) i) (ap previousOf i)
-      (ap (λ (j : ℕ). roundsTo P j (kept P) none) d) (λ j t. t)
+      let d : 2 * c + 2 ≡ 2 * survivors P + 2 = omega (arith, t) in
+      ap (λ (j : ℕ). roundsTo P j (kept P) none) d
 
   -- ---- one round more
   module _ (k cap : ℕ) (s : State) (t : Turn) (f : Fit) (E : stepOf t f ≡ round P (has (s .included)) (previousOf s)) (K : k < cap)
-      (I : Left (cap - k) s) where
-    next : (x : Step Fit) → x ≡ round P (has (s .included)) (previousOf s) → outlierRounds P
+      (I : Left cap (cap - k) s) where
+    next : (x : Step Fit) → x ≡ round P (has (s .included)) (previousOf s) → capped P cap
         ≡ answerAfter P (λ S q. roundsTo P (cap - (k + 1)) S q) (has (s .included)) x
     unfolding roundsTo
     next x e =
@@ -66,20 +71,20 @@ module _ (R : Receptions) (mask : ℕ) (reference : ℤ) (N : R .n ≤ 32) where
     told-by : (u : Turn) → t ≡ u → stepOf u f ≡ round P (has (s .included)) (previousOf s)
     told-by u e = ap (λ (x : Turn). stepOf x f) (sym e) ∙ E
 
-    pub left-ends : (why : Refusal) → t ≡ Ends why → refused why ≡ outlierRounds P
+    pub left-ends : (why : Refusal) → t ≡ Ends why → refused why ≡ capped P cap
     left-ends why e = sym (next (ends why) (told-by (Ends why) e))
 
-    pub left-settles : t ≡ Settles → closed (P .later (has (s .included)) f) ≡ outlierRounds P
+    pub left-settles : t ≡ Settles → closed (P .later (has (s .included)) f) ≡ capped P cap
     left-settles e = sym (next (settles f) (told-by Settles e))
 
-    pub left-changes : (m : ℕ) → t ≡ Changes m → (u : State) → u ≡ record { included = m; had = true; previous = f .params } → Left (cap - (k + 1)) u
+    pub left-changes : (m : ℕ) → t ≡ Changes m → (u : State) → u ≡ record { included = m; had = true; previous = f .params } → Left cap (cap - (k + 1)) u
     left-changes m e u i =
         let step = told-by (Changes m) e in
-        left (cap - (k + 1)) (has m) (some (f .params)) u (ap (λ (x : State). has (x .included)) i) (ap previousOf i) (next (changes (has m) f) step)
+        left cap (cap - (k + 1)) (has m) (some (f .params)) u (ap (λ (x : State). has (x .included)) i) (ap previousOf i) (next (changes (has m) f) step)
         (change-within P (subst (Says P (has (s .included)) (previousOf s)) (sym step)
         (round-says P (has (s .included)) (previousOf s) (I .keeps))) (I .keeps))
 
-  pub left-never : (k cap : ℕ) (s : State) → cap ≤ k → Left (cap - k) s → noFixedPoint ≡ outlierRounds P
+  pub left-never : (k cap : ℕ) (s : State) → cap ≤ k → Left cap (cap - k) s → noFixedPoint ≡ capped P cap
   unfolding roundsTo
   left-never k cap s l i = sym (i .answers ∙ ap (λ (j : ℕ). roundsTo P j (has (s .included)) (previousOf s)) (let d : cap - k ≡ 0 = omega arith in d))
 

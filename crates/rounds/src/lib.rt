@@ -21,6 +21,7 @@ ghost use Rattle.screen.specs.Screen as screen;
 ghost use Rattle.best.specs.Held.{receptions};
 ghost use Rattle.rounds.specs.Rounds.{outlierRounds};
 ghost use Rattle.rounds.specs.Solve.{settingOf, keptAt, solveProblem};
+ghost use Rattle.rounds.specs.Unmoved.{capped};
 ghost use Rattle.rounds.specs.Held.{asAnswer};
 use answer::no_fixed_point;
 use answer::of_finished;
@@ -57,7 +58,7 @@ fn changed(included: u32, fit: Fit) -> State
     }
 }
 
-// The rounds' loop: each starts from the last one's fit.
+// The outlier rule under a cap on rounds, from 0 up: each round starts from the last one's fit.
 fn outlier_rounds(
     site: &[f64; 96],
     z: &[f64; 32],
@@ -67,16 +68,16 @@ fn outlier_rounds(
     altitude: Altitude,
     reference: i64,
     kept: u32,
+    cap: u32,
 ) -> Answer
     requires { ⌜ (n ≤ 32) × (kept < 2 ^ n) ⌝ }
-    ensures { λ r. ⌜ r ≡ asAnswer (outlierRounds
+    ensures { λ r. ⌜ r ≡ asAnswer (capped
         (settingOf (receptions (now (site .entry)) (now (z .entry)) (now (noise .entry)) (now (clock .entry)) n
-        altitude) (has kept) reference)) ⌝ }
+        altitude) (has kept) reference) cap) ⌝ }
 {
-    let rounds = 2 * sets::count(kept) + 2;
     let mut state = first(kept);
     let mut k = 0u32;
-    while k < rounds {
+    while k < cap {
         let step = round(site, z, noise, clock, n, altitude, kept, state);
         let turn = step.turn;
         let fit = step.fit;
@@ -119,7 +120,8 @@ pub fn solve_lent<'a>(
         altitude) (keptAt (now (time .entry)) (now («site_mm» .entry)) n) «reference_ps»)) ⌝ }
 {
     let kept = screen::screen(time, site_mm, n);
-    outlier_rounds(site, z, noise, clock, n, altitude, reference_ps, kept)
+    let cap = 2 * sets::count(kept) + 2;
+    outlier_rounds(site, z, noise, clock, n, altitude, reference_ps, kept, cap)
 }
 
 // Solves one transmission's problem.

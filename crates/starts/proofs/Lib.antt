@@ -5,3 +5,4 @@ pub mod Stores
 pub mod Places
 pub mod Count
 pub mod Back
+pub mod Formatted

@@ -4,3 +4,4 @@ pub mod Over
 pub mod Joined
 pub mod Ranges
 pub mod Meaning
+pub mod Formatted
