@@ -77,10 +77,12 @@ module _ (R : Receptions) (mask : ℕ) (reference : ℤ) (N : R .n ≤ 32) where
     pub left-settles : t ≡ Settles → closed (P .later (has (s .included)) f) ≡ capped P cap
     left-settles e = sym (next (settles f) (told-by Settles e))
 
-    pub left-changes : (m : ℕ) → t ≡ Changes m → (u : State) → u ≡ record { included = m; had = true; previous = f .params } → Left cap (cap - (k + 1)) u
+    pub left-changes : (m : ℕ) → t ≡ Changes m → (u : State) → u ≡ record { included = m; had = true; previous = f .params }
+        → Left cap (cap - (k + 1)) u
     left-changes m e u i =
         let step = told-by (Changes m) e in
-        left cap (cap - (k + 1)) (has m) (some (f .params)) u (ap (λ (x : State). has (x .included)) i) (ap previousOf i) (next (changes (has m) f) step)
+        left cap (cap - (k + 1)) (has m) (some (f .params)) u (ap (λ (x : State). has (x .included)) i) (ap previousOf i)
+        (next (changes (has m) f) step)
         (change-within P (subst (Says P (has (s .included)) (previousOf s)) (sym step)
         (round-says P (has (s .included)) (previousOf s) (I .keeps))) (I .keeps))
 

@@ -58,7 +58,8 @@ fn changed(included: u32, fit: Fit) -> State
     }
 }
 
-// The outlier rule under a cap on rounds, from 0 up: each round starts from the last one's fit.
+// The outlier rule under a cap on rounds, from 0 up: no fixed point where that many each made a change. Each round
+// starts from the last one's fit.
 fn outlier_rounds(
     site: &[f64; 96],
     z: &[f64; 32],
@@ -102,7 +103,7 @@ fn outlier_rounds(
     no_fixed_point()
 }
 
-// Solves one transmission's problem, whose arrays are lent.
+// Solves one transmission's problem, whose arrays are lent: of s kept receptions under a cap of 2s + 2 rounds.
 pub fn solve_lent<'a>(
     time: &'a [i64; 32],
     site_mm: &'a [i64; 96],

@@ -11,3 +11,4 @@ pub mod Numbers
 pub mod Search
 pub mod Recorded
 pub mod Edges
+pub mod Others

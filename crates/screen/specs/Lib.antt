@@ -3,4 +3,5 @@ pub mod Screen
 pub mod Meaning
 pub mod State
 pub mod Turns
+pub mod Others
 pub mod Held

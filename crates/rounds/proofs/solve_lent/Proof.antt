@@ -1,4 +1,4 @@
--- `rounds::solve_lent` meets its contract. The rounds start from what the screen keeps. Assumes nothing.
+-- `rounds::solve_lent` meets its contract. The rounds start from what the screen keeps, under the definition's cap. Assumes nothing.
 use borrow.Author.Needs.{needs}
 use mathlib.Core.Path.{ap, ap₂, _∙_}
 use native.Mathlib.Omega.{arith}
