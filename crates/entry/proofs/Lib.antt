@@ -6,4 +6,5 @@ pub mod Outputs
 pub mod Records
 pub mod Correction
 pub mod Unmoved
+pub mod Listed
 pub mod Published

@@ -114,6 +114,28 @@ metres-good (some a) e = go (eqb (kindAt a) 1) (passed-metres a e)
     go true f = f
     go false f = f
 
+-- ---- receptions that pass
+module _ (I : Inputs) (e : checkInputs I ≡ Passed) where
+  passes : (i : ℕ) → i < I .n → checkReception (I .at) i ≡ Passed
+  passes i h = first-of (checkReception (I .at)) (I .n) i (passed-receptions I e) h
+
+  next-above : (i : ℕ) → suc i < I .n → before (I .at i .id) (I .at (suc i) .id) ≡ true
+  unfolding ascends
+  next-above i h = above-before (I .at) (suc i) (passes (suc i) h)
+
+  -- each is above all before it, step by step
+  climbs : (i d : ℕ) → suc i + d < I .n → before (I .at i .id) (I .at (suc i + d) .id) ≡ true
+  climbs i zero h = let e : suc i + 0 ≡ suc i = omega arith in rw e (next-above i (omega (arith, h)))
+  climbs i (suc d) h =
+      let e : suc i + suc d ≡ suc (suc i + d) = omega arith in
+      let last = suc i + d in
+      rw e
+      (identities-ordered .transitive (I .at i .id) (I .at last .id) (I .at (suc last) .id)
+      (climbs i d (omega (arith, h))) (next-above last (omega (arith, h))))
+
+  pub ascending : Ascending (I .at) (I .n)
+  ascending i j l h = let e : suc i + (j - suc i) ≡ j = omega (arith, l) in rw e at (climbs i (j - suc i) (omega (arith, l, h)))
+
 -- ---- all that was read
 abbrev covarianceOf : List ℕ → ℕ → List Float
 covarianceOf clock n = fillTo (floats 1024) (upperAt clock n) (n * n)
@@ -126,32 +148,12 @@ module _ (n : ℕ) (from : ℕ → Reception) (g : Given) (b alt ref : List ℕ)
     small : n ≤ 32
     small = few I e
 
-    passes : (i : ℕ) → i < n → checkReception from i ≡ Passed
-    passes i h = first-of (checkReception from) n i (passed-receptions I e) h
-
-    next-above : (i : ℕ) → suc i < n → before (from i .id) (from (suc i) .id) ≡ true
-    unfolding ascends
-    next-above i h = above-before from (suc i) (passes (suc i) h)
-
-    -- each is above all before it, step by step
-    climbs : (i d : ℕ) → suc i + d < n → before (from i .id) (from (suc i + d) .id) ≡ true
-    climbs i zero h = let e : suc i + 0 ≡ suc i = omega arith in rw e (next-above i (omega (arith, h)))
-    climbs i (suc d) h =
-        let e : suc i + suc d ≡ suc (suc i + d) = omega arith in
-        let last = suc i + d in
-        rw e
-        (identities-ordered .transitive (from i .id) (from last .id) (from (suc last) .id)
-        (climbs i d (omega (arith, h))) (next-above last (omega (arith, h))))
-
-    pub ascending : Ascending from n
-    ascending i j l h = let e : suc i + (j - suc i) ≡ j = omega (arith, l) in rw e at (climbs i (j - suc i) (omega (arith, l, h)))
-
     sites-good : (k : ℕ) → k < 3 * n → goodCoordinate
         (getD (fillTo (wholes 96) (λ k. getD (from (k / 3) .«site_mm») (k % 3) (pos 0)) (3 * n)) k (pos 0)) ≡ true
     sites-good k h =
         let s = small in
         rw (fill-at (wholes 96) (λ k. getD (from (k / 3) .«site_mm») (k % 3) (pos 0)) (3 * n) k (pos 0) h (rw length-replicate (omega arith)))
-        (coordinate-good from (k / 3) (passes (k / 3) (omega arith)) (k % 3) (omega arith))
+        (coordinate-good from (k / 3) (passes I e (k / 3) (omega arith)) (k % 3) (omega arith))
 
     pub clock-whole : (Option·getD (I .clock) [] ≡ b) × (length b ≡ 8 * (n * n)) × (firstTo (checkRow b n) n ≡ Passed)
     clock-whole = clock-of (g .clock) b n (passed-clock I e) (is-covered I e)
@@ -175,12 +177,12 @@ module _ (n : ℕ) (from : ℕ → Reception) (g : Given) (b alt ref : List ℕ)
         record {
           most = small;
           times = λ i h. rw (fill-at (wholes 32) (λ i. from i .time) n i (pos 0) h (rw length-replicate (let s = small in omega arith)))
-              (time-good from i (passes i h));
+              (time-good from i (passes I e i h));
           sites = sites-good;
           zs = λ i h. rw (fill-at (floats 32) (λ i. from i .z) n i nan h (rw length-replicate (let s = small in omega arith)))
-              (z-good from i (passes i h));
+              (z-good from i (passes I e i h));
           noises = λ i h. rw (fill-at (floats 32) (λ i. from i .«noise_m2») n i nan h (rw length-replicate (let s = small in omega arith)))
-              (noise-good from i (passes i h));
+              (noise-good from i (passes I e i h));
           clock = clock-good;
           altitude = metres-good (I .altitude) (passed-altitude I e);
         }
@@ -219,5 +221,5 @@ module _ (f : Fields) (n : ℕ) (from : ℕ → Reception) (filled : f ≡ field
       (shownOf (J .altitude)))
       filled (sym (clock-whole n from g b alt ref e .0)) in
       rw (s, metres-held f n (few J e) from filled, c, a, r, d) (
-      record { problem = same; inDomain = subst InDomain (sym same) (in-domain n from g b alt ref e); ascending = ascending n from g b alt ref e }
+      record { problem = same; inDomain = subst InDomain (sym same) (in-domain n from g b alt ref e); ascending = ascending J e }
       )

@@ -1,4 +1,4 @@
--- Receptions that ascend have their places and their identities in one order. Assumes nothing.
+-- Receptions that ascend have their places and their identities in one order, and those of inputs that pass the checks ascend. Assumes nothing.
 use Prim.Native.Nat.{ℕ, _<_, _≤_}
 use mathlib.Core.Path.{_≡_, refl, sym, subst, _∙_}
 use mathlib.Core.Logic.{_⊎_, inl, inr}
@@ -12,6 +12,7 @@ use Rattle.receptions.specs.declared.Reception.{Reception}
 use Rattle.receptions.specs.Identities.{before}
 use Rattle.receptions.proofs.Meaning.{identities-ordered}
 use Rattle.inputs.specs.InDomain.{Ascending, TiesFollowOrder}
+use Rattle.inputs.proofs.Sound.{ascending}
 
 not-itself : (a : ObservationId) → before a a ≡ true → ⊥
 not-itself a e = let z : _≡_ {A = Bool} true false = sym e ∙ identities-ordered .irreflexive a in let q : _≡_ {A = ℕ} 0 1 = cc in omega (arith, q)
@@ -32,4 +33,4 @@ module _ (at : ℕ → Reception) (n : ℕ) (up : Ascending at n) (i j : ℕ) (l
       go false q = absurd (not-above (ltb-false i j q))
 
 pub ties-follow-order : TiesFollowOrder
-ties-follow-order at n up i j li lj = (λ h. up i j h lj, lower at n up i j li)
+ties-follow-order I e i j li lj = let up = ascending I e in (λ h. up i j h lj, lower (I .at) (I .n) up i j li)

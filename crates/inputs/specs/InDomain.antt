@@ -14,7 +14,8 @@ use Rattle.problem.specs.declared.Problem.{Problem}
 use Rattle.receptions.specs.declared.Reception.{Reception}
 use Rattle.receptions.specs.Identities.{before}
 use Rattle.inputs.specs.Domain.{goodTime, goodCoordinate, goodZ, goodNoise, goodEntry, goodMetres}
-use Rattle.inputs.specs.Inputs.{Inputs, problemOf}
+use Rattle.inputs.specs.Faults.{passed}
+use Rattle.inputs.specs.Inputs.{Inputs, checkInputs, problemOf}
 
 abbrev pub altitudeGood : Altitude → Bool
 altitudeGood None = true
@@ -41,9 +42,9 @@ pub record Read (I : Inputs) (P : Problem) : Type 0 where
   pub inDomain : InDomain P
   pub ascending : Ascending (I .at) (I .n)
 
--- "Ties everywhere follow the new order": where receptions ascend, the one of two with the lower place is the one with
--- the lower identity, so "lowest index on ties" is lowest identity on ties
+-- "Ties everywhere follow the new order": of inputs that nothing turns away, the one of two receptions with the lower
+-- place is the one with the lower identity, so "lowest index on ties" is lowest identity on ties
 abbrev pub TiesFollowOrder : Type 0
 TiesFollowOrder =
-    (at : ℕ → Reception) (n : ℕ) → Ascending at n
-    → (i j : ℕ) → i < n → j < n → (i < j) ↔ (before (at i .id) (at j .id) ≡ true)
+    (I : Inputs) → checkInputs I ≡ passed
+    → (i j : ℕ) → i < I .n → j < I .n → (i < j) ↔ (before (I .at i .id) (I .at j .id) ≡ true)
