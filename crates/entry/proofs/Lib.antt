@@ -7,3 +7,5 @@ pub mod Records
 pub mod Correction
 pub mod Unmoved
 pub mod Published
+pub mod Reaches
+pub mod Numbered

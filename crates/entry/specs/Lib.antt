@@ -3,3 +3,4 @@ pub mod Cut
 pub mod Outputs
 pub mod Correction
 pub mod Unmoved
+pub mod Numbered
