@@ -8,3 +8,5 @@ pub mod Correction
 pub mod Unmoved
 pub mod Listed
 pub mod Published
+pub mod Reaches
+pub mod Numbered

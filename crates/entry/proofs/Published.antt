@@ -1,23 +1,26 @@
 -- What the record of every fix shows: what rounds proves of the fix is read back from its bytes, where `Stands` has it. In document 01's domain noise
 -- is above 0, and no clock's variance below it. Assumes nothing.
 use Prim.Native.Nat.{ℕ, zero, suc, _+_, _*_, _<_, _≤_}
-use mathlib.Core.Path.{_≡_, refl, sym, ap, subst, _∙_}
-use mathlib.Core.Bool.{Bool, true, false, not, cond, _&&_}
+use mathlib.Core.Path.{_≡_, refl, sym, ap, ap₂, subst, _∙_}
+use mathlib.Core.Bool.{Bool, true, false, not, _&&_}
 use mathlib.Core.Logic.{inl, inr}
-use mathlib.Core.List.{List, []}
+use mathlib.Core.List.{List, [], _∷_}
 use mathlib.Core.Option.{Option, none, some}
 use native.Mathlib.Omega.{arith}
 use borrow.Author.Tests.{eq-eqb}
-use lib.Dec.{T, eqb}
-use lib.Ieee.{Float, nan, inf, fin, round, mul, neg, lt, le, eq, isNan, ofBits}
-use lib.Ieee.Fits.{and-l, and-r}
+use lib.Dec.{T}
+use lib.ListN.{replicate}
+use lib.Ieee.{Float, nan, inf, fin, round, mul, lt, le, eq, isNan, ofBits}
+use lib.Ieee.Fits.{and-l}
 use Rattle.binary64.specs.Steps.{decimal, nought, isFinite}
 use Rattle.binary64.specs.Within.{Within}
 use Rattle.binary64.proofs.Order.{holds}
 use Rattle.binary64.proofs.Less.{lt-split, le-lt}
 use Rattle.dense.specs.Entries.{nth, at}
+use Rattle.dense.specs.Factor.{found, cholesky}
 use Rattle.geo.specs.Meaning.{IsFinite}
 use Rattle.limits.specs.Heights.{minHeightM, maxHeightM}
+use Rattle.limits.specs.Local.{entry}
 use Rattle.words.specs.Words.{f64At}
 use Rattle.reader.specs.Rules.{Finite}
 use Rattle.reader.specs.Stands.{Shows, Stands}
@@ -38,17 +41,26 @@ use Rattle.rounds.specs.declared.answer.Refusal.{Refusal}
 use Rattle.rounds.specs.declared.answer.Refusal.the-variants as why
 use Rattle.rounds.specs.Setting.{Answer}
 use Rattle.rounds.specs.Setting as answers
-use Rattle.rounds.specs.Finish.{maxVarianceM2}
+use Rattle.rounds.specs.Finish.{maxVarianceM2, cholesky3}
+use Rattle.rounds.specs.Mirrored.{covariance}
 use Rattle.rounds.specs.Solve.{number, refusalNumber, solveProblem}
 use Rattle.rounds.specs.Demand.{Fixed, rounds, remaining}
 use Rattle.rounds.proofs.Found.{demand-met}
 use Rattle.rounds.proofs.Published.{Noisy, FiniteFix, fix-finite, fix-claimed, fix-on-earth, fix-chi2-up}
 use Rattle.record.specs.declared.content.Fix.{Fix}
 use Rattle.entry.specs.Reply.{recordOf, replied, reply}
-use Rattle.entry.proofs.Replies.{not-torn, came-whole, torn-or-whole}
+use Rattle.entry.proofs.Replies.{came-whole, torn-or-whole}
 use Rattle.entry.proofs.Written.{small, shown, stands}
 
 -- ---- what is read back from the record of a fix
+
+-- the nine floats of its covariance, rows in order
+abbrev covarianceAt : List ℕ → List Float
+covarianceAt s =
+    f64At s 80 ∷ f64At s 88 ∷ f64At s 96
+    ∷ f64At s 104 ∷ f64At s 112 ∷ f64At s 120
+    ∷ f64At s 128 ∷ f64At s 136 ∷ f64At s 144 ∷ []
+
 pub record Publishes (s : List ℕ) : Type 0 where
   -- ECEF, T and the position; the covariance
   pub places : (i : ℕ) → i < 7 → Finite s (16 + 8 * i)
@@ -62,6 +74,8 @@ pub record Publishes (s : List ℕ) : Type 0 where
   pub variances
       : (axis : ℕ) → axis < 3
       → T (lt nought (f64At s (80 + 32 * axis))) × T (le (f64At s (80 + 32 * axis)) (decimal 2250000 0))
+  -- the covariance has a Cholesky factor
+  pub definite : (l : List Float) × (cholesky (covarianceAt s) 3 (replicate 9 nought) ≡ found l)
   -- chi-square is no less than 0
   pub chi2 : T (le nought (f64At s 152))
 
@@ -85,7 +99,7 @@ domain n at (some c) none (some r) e = in-domain n at (given true false true) c 
 domain n at (some c) (some a) none e = in-domain n at (given true true false) c a [] e
 domain n at (some c) (some a) (some r) e = in-domain n at (given true true true) c a r e
 
-passed-domain : (I : Inputs) → checkInputs I ≡ Passed → InDomain (problemOf I)
+pub passed-domain : (I : Inputs) → checkInputs I ≡ Passed → InDomain (problemOf I)
 passed-domain I e = subst InDomain (torn-or-whole I) (domain (I .n) (I .at) (I .clock) (I .altitude) (I .reference) (came-whole I e))
 
 le-right : (x y : Float) → T (le x y) → T (not (isNan y))
@@ -171,6 +185,35 @@ module _ (P : Problem) (N : P .n ≤ 32) (d : InDomain P) (x : Fix) (e : solvePr
       subst Claims (sym (back s 144 _ (f .claims 2 2 l l) (h .r2 2 (omega arith)))) (limited _ (fix-claimed P N x e 2 l))
   variances (suc (suc (suc axis))) l = absurd (omega arith)
 
+  definite : (l : List Float) × (cholesky (covarianceAt s) 3 (replicate 9 nought) ≡ found l)
+  definite =
+      let certain = demand-met P N .claim .fixed x .0 e .shown .certain in
+      let same = demand-met P N .claim .fixed x .0 e .shown .shows in (
+        certain .factor,
+        ap (λ (m : List Float). cholesky m 3 (replicate 9 nought)) claimed
+            ∙ subst (λ (y : Fix). cholesky3 (covariance y) ≡ found (certain .factor)) (sym same) (certain .definite),
+      )
+    where
+      read : (k i j : ℕ) → i < 3 → j < 3 → Shows s k (entry (covariance x) i j) → f64At s k ≡ entry (covariance x) i j
+      read k i j p q t = back s k (entry (covariance x) i j) (f .claims i j p q) t
+
+      claimed
+          : covarianceAt s
+          ≡ entry (covariance x) 0 0 ∷ entry (covariance x) 0 1 ∷ entry (covariance x) 0 2
+          ∷ entry (covariance x) 1 0 ∷ entry (covariance x) 1 1 ∷ entry (covariance x) 1 2
+          ∷ entry (covariance x) 2 0 ∷ entry (covariance x) 2 1 ∷ entry (covariance x) 2 2 ∷ []
+      claimed =
+          ap₂ _∷_ (read 80 0 0 (omega arith) (omega arith) (h .r0 0 (omega arith)))
+          (ap₂ _∷_ (read 88 0 1 (omega arith) (omega arith) (h .r0 1 (omega arith)))
+          (ap₂ _∷_ (read 96 0 2 (omega arith) (omega arith) (h .r0 2 (omega arith)))
+          (ap₂ _∷_ (read 104 1 0 (omega arith) (omega arith) (h .r1 0 (omega arith)))
+          (ap₂ _∷_ (read 112 1 1 (omega arith) (omega arith) (h .r1 1 (omega arith)))
+          (ap₂ _∷_ (read 120 1 2 (omega arith) (omega arith) (h .r1 2 (omega arith)))
+          (ap₂ _∷_ (read 128 2 0 (omega arith) (omega arith) (h .r2 0 (omega arith)))
+          (ap₂ _∷_ (read 136 2 1 (omega arith) (omega arith) (h .r2 1 (omega arith)))
+          (ap₂ _∷_ (read 144 2 2 (omega arith) (omega arith) (h .r2 2 (omega arith)))
+          (refl)))))))))
+
   publishes : Publishes s
   publishes =
       let found = demand-met P N .found x (demand-met P N .claim .fixed x .0 e) in
@@ -184,6 +227,7 @@ module _ (P : Problem) (N : P .n ≤ 32) (d : InDomain P) (x : Fix) (e : solvePr
         above = subst (λ (v : Float). T (le minHeightM v)) (sym height) (found .above);
         below = subst (λ (v : Float). T (le v maxHeightM)) (sym height) (found .below);
         variances = variances;
+        definite = definite;
         chi2 = let c = fix-chi2-up P N x e in
             subst (λ (v : Float). T (le nought v)) (sym (shown-is-read s 152 (x .chi2) (c .0) (h .chi2))) (c .1);
       }

@@ -4,3 +4,4 @@ pub mod Outputs
 pub mod Correction
 pub mod Unmoved
 pub mod Listed
+pub mod Numbered

@@ -109,7 +109,7 @@ abbrev pub FixChi2Up : Type 0
 FixChi2Up = (P : Problem) → P .n ≤ mostReceptions → (x : Fix) → solveProblem P ≡ fix x → Chi2Up x
 
 -- ---- the parameters of every round are values of binary64
-abbrev Before : Option (List Float) → Type 0
+abbrev pub Before : Option (List Float) → Type 0
 Before none = Unit {0}
 Before (some p) = Formatted p
 
@@ -117,7 +117,7 @@ start-formatted : (R : Receptions) (S : Subset) (p : Option (List Float)) → Be
 start-formatted R S none h i = starts-formatted _ _ _ _ _ _ zeros-formatted i
 start-formatted R S (some q) h i = starts-formatted _ _ _ _ _ _ h i
 
-best-formatted
+pub best-formatted
     : (R : Receptions) (S : Subset) (p : Option (List Float)) (f : Fit) → R .n ≤ 32 → Before p → bestFitOver R S p ≡ gives f → Formatted (f .params)
 best-formatted R S p f N h e =
     let b = answered-over R S p .found N f .0 e in
@@ -128,7 +128,7 @@ module _ (P : Problem) (N : P .n ≤ 32) where
   change-fitted (removal i h w g) = h
   change-fitted (return i h a l g) = h
 
-  chain-formatted : {k : ℕ} {S E : Subset} {p q : Option (List Float)} → Chain (rounds P) k S p E q → Before p → Before q
+  pub chain-formatted : {k : ℕ} {S E : Subset} {p q : Option (List Float)} → Chain (rounds P) k S p E q → Before p → Before q
   chain-formatted start h = h
   chain-formatted {S = S} {p = p} (then {f = f} c s) h =
       chain-formatted s (best-formatted (receptionsOf P) S p f N h (change-fitted c .best))
@@ -279,7 +279,7 @@ not-below (fin false m e) (inl c) n = not-less m e
 not-below v (inr e) n = absurd (subst (λ (u : Float). T (not (isNan u))) e n)
 
 -- ---- every fix
-some-needed : (a : Altitude) → 0 < minimum a
+pub some-needed : (a : Altitude) → 0 < minimum a
 some-needed None = omega arith
 some-needed (Barometric m) = omega arith
 some-needed (Gnss m) = omega arith
