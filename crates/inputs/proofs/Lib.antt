@@ -1,4 +1,5 @@
 -- The laws that the proofs share. Order and Places serve the crates above too.
+pub mod Clause
 pub mod Limits
 pub mod Correction
 pub mod Held

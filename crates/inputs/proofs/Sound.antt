@@ -30,6 +30,7 @@ use Rattle.inputs.specs.Domain.{isZero, goodAltitude}
 use Rattle.inputs.specs.Inputs.{entryAt, Inputs, inputsOf, checkReception, goodRowTo, checkRow, kindAt, correctionAt, metresAt, checkAltitude}
 use Rattle.inputs.specs.Inputs.{checkInputs, metresOf, upperAt, altitudeOf, shownOf, referenceOf, problemOf}
 use Rattle.inputs.specs.InDomain.{InDomain, Ascending, Read, altitudeGood}
+use Rattle.inputs.proofs.Clause.{Clause}
 use Rattle.inputs.proofs.Order.{both-of, good-of, or-of, few, passed-receptions, passed-clock, passed-altitude, is-covered, clock-of, first-of}
 use Rattle.receptions.specs.Identities.{before, ascends}
 use Rattle.receptions.proofs.Filling.{fill-at}
@@ -171,21 +172,54 @@ module _ (n : ℕ) (from : ℕ → Reception) (g : Given) (b alt ref : List ℕ)
         )
         (entry-good b n i j (clock-whole .2) h l)
 
-    pub in-domain : InDomain (problemOf I)
+    -- the domain, clause by clause
+    abbrev Domain : Type 0
+    Domain = InDomain (problemOf I)
+
+    domain-most : Clause (λ (d : Domain). d .most)
+    unfolding problemOf
+    domain-most = small
+
+    domain-times : Clause (λ (d : Domain). d .times)
     unfolding problemOf fieldsOf
-    in-domain =
-        record {
-          most = small;
-          times = λ i h. rw (fill-at (wholes 32) (λ i. from i .time) n i (pos 0) h (rw length-replicate (let s = small in omega arith)))
-              (time-good from i (passes I e i h));
-          sites = sites-good;
-          zs = λ i h. rw (fill-at (floats 32) (λ i. from i .z) n i nan h (rw length-replicate (let s = small in omega arith)))
-              (z-good from i (passes I e i h));
-          noises = λ i h. rw (fill-at (floats 32) (λ i. from i .«noise_m2») n i nan h (rw length-replicate (let s = small in omega arith)))
-              (noise-good from i (passes I e i h));
-          clock = clock-good;
-          altitude = metres-good (I .altitude) (passed-altitude I e);
-        }
+    domain-times i h =
+        rw (fill-at (wholes 32) (λ i. from i .time) n i (pos 0) h (rw length-replicate (let s = small in omega arith)))
+        (time-good from i (passes I e i h))
+
+    domain-sites : Clause (λ (d : Domain). d .sites)
+    unfolding problemOf fieldsOf
+    domain-sites = sites-good
+
+    domain-zs : Clause (λ (d : Domain). d .zs)
+    unfolding problemOf fieldsOf
+    domain-zs i h =
+        rw (fill-at (floats 32) (λ i. from i .z) n i nan h (rw length-replicate (let s = small in omega arith)))
+        (z-good from i (passes I e i h))
+
+    domain-noises : Clause (λ (d : Domain). d .noises)
+    unfolding problemOf fieldsOf
+    domain-noises i h =
+        rw (fill-at (floats 32) (λ i. from i .«noise_m2») n i nan h (rw length-replicate (let s = small in omega arith)))
+        (noise-good from i (passes I e i h))
+
+    domain-clock : Clause (λ (d : Domain). d .clock)
+    unfolding problemOf
+    domain-clock = clock-good
+
+    domain-altitude : Clause (λ (d : Domain). d .altitude)
+    unfolding problemOf
+    domain-altitude = metres-good (I .altitude) (passed-altitude I e)
+
+    pub in-domain : InDomain (problemOf I)
+    in-domain = record {
+      most = domain-most;
+      times = domain-times;
+      sites = domain-sites;
+      zs = domain-zs;
+      noises = domain-noises;
+      clock = domain-clock;
+      altitude = domain-altitude;
+    }
 
 -- ---- the problem, of its parts
 abbrev pub made : ℕ → Fields → List Float → List Float → Altitude → ℤ → Altitude → Problem
@@ -208,18 +242,29 @@ module _ (f : Fields) (n : ℕ) (from : ℕ → Reception) (filled : f ≡ field
   abbrev J : Inputs
   J = inputsOf true n from g b alt ref
 
+  -- the problem of the inputs, by its parts
+  abbrev whole-problem : Problem
+  whole-problem = made n f (metresOf from n) (covarianceOf b n) (altitudeOf (J .altitude)) (referenceOf (J .reference)) (shownOf (J .altitude))
+
+  read-problem : Clause (λ (r : Read J whole-problem). r .problem)
+  unfolding problemOf
+  read-problem =
+      ap₂ (λ (h : Fields) (k : List ℕ). made n h (metresOf from n) (covarianceOf k n) (altitudeOf (J .altitude)) (referenceOf (J .reference))
+      (shownOf (J .altitude)))
+      filled (sym (clock-whole n from g b alt ref e .0))
+
+  read-in-domain : whole-problem ≡ problemOf J → InDomain (problemOf J) → Clause (λ (r : Read J whole-problem). r .inDomain)
+  read-in-domain same d = subst InDomain (sym same) d
+
+  read-ascending : Clause (λ (r : Read J whole-problem). r .ascending)
+  read-ascending = ascending J e
+
   pub is-problem
       : {site clock : List Float} {altitude shown : Altitude} {reference : ℤ}
       → site ≡ metresIn (f .«site_mm») n → clock ≡ covarianceOf b n → altitude ≡ altitudeOf (J .altitude) → reference ≡ referenceOf (J .reference)
       → shown ≡ shownOf (J .altitude)
       → Read J (made n f site clock altitude reference shown)
-  unfolding problemOf
   is-problem s c a r d =
-      let same : made n f (metresOf from n) (covarianceOf b n) (altitudeOf (J .altitude)) (referenceOf (J .reference))
-      (shownOf (J .altitude)) ≡ problemOf J
-      = ap₂ (λ (h : Fields) (k : List ℕ). made n h (metresOf from n) (covarianceOf k n) (altitudeOf (J .altitude)) (referenceOf (J .reference))
-      (shownOf (J .altitude)))
-      filled (sym (clock-whole n from g b alt ref e .0)) in
       rw (s, metres-held f n (few J e) from filled, c, a, r, d) (
-      record { problem = same; inDomain = subst InDomain (sym same) (in-domain n from g b alt ref e); ascending = ascending J e }
+      record { problem = read-problem; inDomain = read-in-domain read-problem (in-domain n from g b alt ref e); ascending = read-ascending }
       )

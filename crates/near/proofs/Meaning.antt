@@ -21,6 +21,7 @@ use Rattle.near.specs.Near.{records, readableTo, isFix, distance, farthe
 use Rattle.near.specs.Near.{fileRefusal, queryRefusal, isNear, within, withinAnswer, placesAfter, countAfter, nearestAnswer}
 use Rattle.near.specs.Meaning.{Within, Whole, Readable, Malformed, Sound, GoodSize, GoodPoint, GoodQuery, WithinAnswers}
 use Rattle.near.specs.Meaning.{NearestAnswers, LentAsFound, Lists, ListIsExact}
+use Rattle.reader.proofs.Clause.{Clause}
 use Rattle.near.proofs.Records.{each, all, one-is-not, some-is-not}
 use Rattle.near.proofs.Refusing.{torn, malformed, sound, sound-file, bad-query, asked, refused-file, short, roomy, left, unmoved}
 use Rattle.near.proofs.Listing as listing
@@ -291,23 +292,43 @@ near-to file point radius k w =
     let r = recordAt file k in
     and-both (eqb (answerAt r) 0) (le (distance point r) radius) (eq→T (eq-eqb _ 0 (w .fix .answer))) (w .near)
 
--- the list of a buffer with room for all
-whole-list : (file : List ℕ) (point : List Float) (radius : Float) (places : List ℕ) → records file ≤ length places
-    → Lists file point radius places (membersTo (within file point radius) places (records file)) (count (within file point radius) (records file))
-whole-list file point radius places room = record {
-  each = λ k w. let p = placed S places n k room (w .fix .below) (near-to file point radius k w) in (p .place, p .below, p .there);
-  noOther = λ a h. let l = lists S places n a room h in near-of file point radius _ (l .below) (l .member);
-  once = λ a b l h e. listing.distinct S places n a b room l h e;
-  ascending = λ a b l h. listing.ascends S places n a b room l h;
-  rest = λ a h. listing.rest S places n a h;
-  size = members-length S places n;
-}
-  where
-    S : ℕ → Bool
-    S = within file point radius
+-- the list of a buffer with room for all, clause by clause
+module _ (file : List ℕ) (point : List Float) (radius : Float) (places : List ℕ) (room : records file ≤ length places) where
+  abbrev near-by : ℕ → Bool
+  near-by = within file point radius
 
-    n : ℕ
-    n = records file
+  abbrev Listed : Type 0
+  Listed = Lists file point radius places (membersTo near-by places (records file)) (count near-by (records file))
+
+  list-each : Clause (λ (l : Listed). l .each)
+  list-each k w =
+      let p = placed near-by places (records file) k room (w .fix .below) (near-to file point radius k w) in
+      (p .place, p .below, p .there)
+
+  list-no-other : Clause (λ (l : Listed). l .noOther)
+  list-no-other a h = let l = lists near-by places (records file) a room h in near-of file point radius _ (l .below) (l .member)
+
+  list-once : Clause (λ (l : Listed). l .once)
+  list-once a b l h e = listing.distinct near-by places (records file) a b room l h e
+
+  list-ascending : Clause (λ (l : Listed). l .ascending)
+  list-ascending a b l h = listing.ascends near-by places (records file) a b room l h
+
+  list-rest : Clause (λ (l : Listed). l .rest)
+  list-rest a h = listing.rest near-by places (records file) a h
+
+  list-size : Clause (λ (l : Listed). l .size)
+  list-size = members-length near-by places (records file)
+
+  whole-list : Listed
+  whole-list = record {
+    each = list-each;
+    noOther = list-no-other;
+    once = list-once;
+    ascending = list-ascending;
+    rest = list-rest;
+    size = list-size;
+  }
 
 room-of : (b : Bool) (places n r : ℕ) → ltb places n ≡ b → _≡_ {A = ℕ} (cond b 14 r) 0 → n ≤ places
 room-of true places n r e z = absurd (omega arith)

@@ -1,4 +1,5 @@
 -- The laws that the proofs share.
+pub mod Clause
 pub mod Tests
 pub mod Paragraph
 pub mod Places

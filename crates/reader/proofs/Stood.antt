@@ -19,7 +19,8 @@ use Rattle.words.proofs.Back.{lowest}
 use Rattle.problem.specs.declared.Altitude.{Altitude}
 use Rattle.record.specs.declared.content.Fix.{Fix}
 use Rattle.record.specs.Record as shown
-use Rattle.reader.specs.Stands.{Shows, ShownIsRead, FixStands}
+use Rattle.reader.specs.Stands.{Shows, ShownIsRead, Stands, FixStands}
+use Rattle.reader.proofs.Clause.{Clause}
 use Rattle.reader.proofs.Table.{Reads, first-read, whole-read, later-read}
 use Rattle.reader.proofs.Fixed.{bits, front, table, table-read, answer-read, u32-back, i64-back}
 use Rattle.reader.proofs.Value.{fix-sized}
@@ -54,30 +55,111 @@ three-shown s k v x y z (suc zero) h = y
 three-shown s k v x y z (suc (suc zero)) h = z
 three-shown s k v x y z (suc (suc (suc j))) h = absurd (omega (arith, h))
 
+-- the record of a fix, clause by clause
+module _ (n : ℕ) (alt : Altitude) (f : Fix) where
+  abbrev s : List ℕ
+  s = shown.fix n alt f
+
+  abbrev Standing : Type 0
+  Standing = Stands s n alt f
+
+  at : (i : ℕ) → Reads s (drop i (table n alt f))
+  at i = later-read i (table-read n alt f)
+
+  stands-size : Clause (λ (h : Standing). h .size)
+  stands-size = fix-sized n alt f
+
+  stands-answer : Clause (λ (h : Standing). h .answer)
+  stands-answer = answer-read n alt f
+
+  stands-detail : f .dof < 2 ^ 32 → Clause (λ (h : Standing). h .detail)
+  unfolding table front
+  stands-detail few = sym (u32-back s 4 (f .dof) (whole-read (at 1) few))
+
+  stands-considered : n < 2 ^ 32 → Clause (λ (h : Standing). h .considered)
+  unfolding table front
+  stands-considered few = sym (u32-back s 8 n (whole-read (at 2) few))
+
+  stands-mask : f .mask < 2 ^ 32 → Clause (λ (h : Standing). h .mask)
+  unfolding table front
+  stands-mask few = sym (u32-back s 12 (f .mask) (whole-read (at 3) few))
+
+  stands-ecef : Clause (λ (h : Standing). h .ecef)
+  unfolding table front
+  stands-ecef = three-shown s 16 (f .ecef) (shows s 16 _ (first-read (at 4))) (shows s 24 _ (first-read (at 5))) (shows s 32 _ (first-read (at 6)))
+
+  stands-t : Clause (λ (h : Standing). h .t)
+  unfolding table front
+  stands-t = shows s 40 (f .t) (first-read (at 7))
+
+  stands-lat : Clause (λ (h : Standing). h .lat)
+  unfolding table front
+  stands-lat = shows s 48 (f .position .«lat_deg») (first-read (at 8))
+
+  stands-lon : Clause (λ (h : Standing). h .lon)
+  unfolding table front
+  stands-lon = shows s 56 (f .position .«lon_deg») (first-read (at 9))
+
+  stands-height : Clause (λ (h : Standing). h .height)
+  unfolding table front
+  stands-height = shows s 64 (f .position .«height_m») (first-read (at 10))
+
+  stands-transmit : SFits w64 (f .«transmit_ps») → Clause (λ (h : Standing). h .transmit)
+  unfolding table front
+  stands-transmit ps = sym (i64-back s 72 (f .«transmit_ps») (whole-read (at 11) (ofZ-fits w64 _ ps .fits)) ps)
+
+  stands-r0 : Clause (λ (h : Standing). h .r0)
+  unfolding table front
+  stands-r0 = three-shown s 80 (f .r0) (shows s 80 _ (first-read (at 12))) (shows s 88 _ (first-read (at 13))) (shows s 96 _ (first-read (at 14)))
+
+  stands-r1 : Clause (λ (h : Standing). h .r1)
+  unfolding table front
+  stands-r1 = three-shown s 104 (f .r1) (shows s 104 _ (first-read (at 15))) (shows s 112 _ (first-read (at 16))) (shows s 120 _ (first-read (at 17)))
+
+  stands-r2 : Clause (λ (h : Standing). h .r2)
+  unfolding table front
+  stands-r2 = three-shown s 128 (f .r2) (shows s 128 _ (first-read (at 18))) (shows s 136 _ (first-read (at 19))) (shows s 144 _ (first-read (at 20)))
+
+  stands-chi2 : Clause (λ (h : Standing). h .chi2)
+  unfolding table front
+  stands-chi2 = shows s 152 (f .chi2) (first-read (at 21))
+
+  stands-version : Clause (λ (h : Standing). h .version)
+  stands-version = version-shown n alt f
+
+  stands-kind : Clause (λ (h : Standing). h .kind)
+  stands-kind = kind-shown n alt f
+
+  stands-filler : Clause (λ (h : Standing). h .filler)
+  stands-filler = filler-shown n alt f
+
+  stands-metres : Clause (λ (h : Standing). h .metres)
+  unfolding table front
+  stands-metres = shows s 168 (shown.metres alt) (first-read (at 24))
+
+  stands-none : Clause (λ (h : Standing). h .none)
+  stands-none e = none-shown n alt f (kind-shown n alt f ∙ e)
+
 pub fix-stands : FixStands
-unfolding table front
-fix-stands n alt f few dof mask ps =
-    let s : List ℕ = shown.fix n alt f in
-    let at : (i : ℕ) → Reads s (drop i (table n alt f)) = λ i. later-read i (table-read n alt f) in
-    record {
-      size = fix-sized n alt f;
-      answer = answer-read n alt f;
-      detail = sym (u32-back s 4 (f .dof) (whole-read (at 1) dof));
-      considered = sym (u32-back s 8 n (whole-read (at 2) few));
-      mask = sym (u32-back s 12 (f .mask) (whole-read (at 3) mask));
-      ecef = three-shown s 16 (f .ecef) (shows s 16 _ (first-read (at 4))) (shows s 24 _ (first-read (at 5))) (shows s 32 _ (first-read (at 6)));
-      t = shows s 40 (f .t) (first-read (at 7));
-      lat = shows s 48 (f .position .«lat_deg») (first-read (at 8));
-      lon = shows s 56 (f .position .«lon_deg») (first-read (at 9));
-      height = shows s 64 (f .position .«height_m») (first-read (at 10));
-      transmit = sym (i64-back s 72 (f .«transmit_ps») (whole-read (at 11) (ofZ-fits w64 _ ps .fits)) ps);
-      r0 = three-shown s 80 (f .r0) (shows s 80 _ (first-read (at 12))) (shows s 88 _ (first-read (at 13))) (shows s 96 _ (first-read (at 14)));
-      r1 = three-shown s 104 (f .r1) (shows s 104 _ (first-read (at 15))) (shows s 112 _ (first-read (at 16))) (shows s 120 _ (first-read (at 17)));
-      r2 = three-shown s 128 (f .r2) (shows s 128 _ (first-read (at 18))) (shows s 136 _ (first-read (at 19))) (shows s 144 _ (first-read (at 20)));
-      chi2 = shows s 152 (f .chi2) (first-read (at 21));
-      version = version-shown n alt f;
-      kind = kind-shown n alt f;
-      filler = filler-shown n alt f;
-      metres = shows s 168 (shown.metres alt) (first-read (at 24));
-      none = λ e. none-shown n alt f (kind-shown n alt f ∙ e);
-    }
+fix-stands n alt f few dof mask ps = record {
+  size = stands-size n alt f;
+  answer = stands-answer n alt f;
+  detail = stands-detail n alt f dof;
+  considered = stands-considered n alt f few;
+  mask = stands-mask n alt f mask;
+  ecef = stands-ecef n alt f;
+  t = stands-t n alt f;
+  lat = stands-lat n alt f;
+  lon = stands-lon n alt f;
+  height = stands-height n alt f;
+  transmit = stands-transmit n alt f ps;
+  r0 = stands-r0 n alt f;
+  r1 = stands-r1 n alt f;
+  r2 = stands-r2 n alt f;
+  chi2 = stands-chi2 n alt f;
+  version = stands-version n alt f;
+  kind = stands-kind n alt f;
+  filler = stands-filler n alt f;
+  metres = stands-metres n alt f;
+  none = stands-none n alt f;
+}

@@ -10,6 +10,7 @@ use Rattle.rounds.specs.declared.finish.Unpublished.{Unpublished}
 use Rattle.rounds.specs.Setting.{ofUnpublished, Answer, fix, refused, noFixedPoint, Setting, kept, survivors}
 use Rattle.rounds.specs.Rounds.{closed, roundsTo, outlierRounds}
 use Rattle.rounds.specs.Demand.{Settled, Ends, InTime, EachChanged, Remaining, Fixed, Refused, early, late, Claim, Exactly}
+use Rattle.rounds.proofs.Clause.{Clause}
 use Rattle.rounds.proofs.Chains.{all-kept, chain-within, after-chain, after-settled, after-end, Run, ended, settled, never, run}
 
 module _ {Q F X : Type 0} (P : Setting Q F X) where
@@ -89,12 +90,20 @@ module _ {Q F X : Type 0} (P : Setting Q F X) (L : Remaining F X) (exact : Exact
   solved-run = run P (cap P) (kept P) none (all-kept P)
 
   -- ---- the claim holds of the computation's answer
+  abbrev Claimed : Type 0
+  Claimed = Claim P L (outlierRounds P)
+
+  claim-fixed : Clause (λ (c : Claimed). c .fixed)
+  claim-fixed x = ((λ e. fixed-of (outlierRounds P) x e solved-run), of-fixed x)
+
+  claim-refusals : Clause (λ (c : Claimed). c .refusals)
+  claim-refusals e = ((λ q. refused-of (outlierRounds P) e q solved-run), of-refused e)
+
+  claim-unfixed : Clause (λ (c : Claimed). c .unfixed)
+  claim-unfixed = ((λ q. unfixed-of (outlierRounds P) q solved-run), of-unfixed)
+
   pub claim : Claim P L (outlierRounds P)
-  claim = record {
-    fixed = λ x. ((λ e. fixed-of (outlierRounds P) x e solved-run), of-fixed x);
-    refusals = λ e. ((λ q. refused-of (outlierRounds P) e q solved-run), of-refused e);
-    unfixed = ((λ q. unfixed-of (outlierRounds P) q solved-run), of-unfixed);
-  }
+  claim = record { fixed = claim-fixed; refusals = claim-refusals; unfixed = claim-unfixed }
 
   -- and of no other
   pub only : (a : Answer X) → Claim P L a → a ≡ outlierRounds P

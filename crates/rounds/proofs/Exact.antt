@@ -168,12 +168,29 @@ module _ (R : Receptions) (reference : ℤ) (S : Subset) (fit : Fit) where
   Said (gives y) = Published R reference S fit y
   Said (refuses u) = Withheld R reference S fit u
 
+  unwhitened-singular : (l : List Float) → whitenerOver R S ≡ refused l → Withheld R reference S fit Singular
+  unwhitened-singular l w = inl (l, w)
+
+  above-inconsistent : (l : List Float) → whitenerOver R S ≡ found l → T (lt (limitBy R reference S fit l) (fit .cost))
+      → Withheld R reference S fit Inconsistent
+  above-inconsistent l w t = (l, w, t)
+
+  uninformed-singular : (l m : List Float) → Consistent R reference S fit l → finalFactor fit ≡ refused m → Withheld R reference S fit Singular
+  uninformed-singular l m h f = inr (l, m, h, f)
+
+  wide-uncertain : (l m : List Float) → Informed R reference S fit l m → TooWide (covarianceBy m) → Withheld R reference S fit Uncertain
+  wide-uncertain l m h t = (l, m, h, t)
+
+  beyond-range : (l m : List Float) → Informed R reference S fit l m → Certain (covarianceBy m) → T (not (fitsI64 (transmit reference fit)))
+      → Withheld R reference S fit OutOfRange
+  beyond-range l m h k t = (l, m, h, k, t)
+
   said : (c : Came) → Said (outcome c)
-  said (unwhitened l w) = inl (l, w)
-  said (inconsistent l w t) = (l, w, t)
-  said (uninformed l m h f) = inr (l, m, h, f)
-  said (uncertain l m h t) = (l, m, h, t)
-  said (beyond l m h k t) = (l, m, h, k, t)
+  said (unwhitened l w) = unwhitened-singular l w
+  said (inconsistent l w t) = above-inconsistent l w t
+  said (uninformed l m h f) = uninformed-singular l m h f
+  said (uncertain l m h t) = wide-uncertain l m h t
+  said (beyond l m h k t) = beyond-range l m h k t
   said (shows l m h k t) = record { l = l; m = m; informed = h; certain = k; inI64 = t; shows = refl }
 
   pub gives-said : (o : Outcome Unpublished Fix) → later R reference S fit ≡ o → Said o

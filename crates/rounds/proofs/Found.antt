@@ -35,6 +35,7 @@ use Rattle.rounds.specs.Finish.{fitsI64, transmitPs, certain, fixOf, inv
 use Rattle.rounds.specs.Solve.{limitAt, normalised, dofOf, settingAt, solveProblem}
 use Rattle.rounds.specs.Later.{covarianceBy, transmit, Published}
 use Rattle.rounds.specs.Demand.{Fixed, Claim, rounds, remaining, usedBy, paramsBy, Found, DemandMet, OneAnswer}
+use Rattle.rounds.proofs.Clause.{Clause}
 use Rattle.rounds.proofs.Chains.{all-kept, chain-within}
 use Rattle.rounds.proofs.Claim.{claim, only}
 use Rattle.rounds.proofs.Exact.{exact}
@@ -139,26 +140,68 @@ module _ (P : Problem) (N : P .n ≤ 32) (x : Fix) (h : Fixed (rounds P) (remain
       ∙ ap₂ (λ (A : Subset) (d : ℕ). limitAt (chosenOver R A l) d (f .params)) uses (shown (λ y. y .dof))
       ∙ ap (λ (w : List Float). limitAt (chosenOver R S w) (dofOf R S) (f .params)) (sym same-factor)
 
+  -- ---- clause by clause
+  abbrev Finding : Type 0
+  Finding = Found P x h
+
+  found-uses : Clause (λ (w : Finding). w .uses)
+  found-uses = uses
+
+  found-used-kept : Clause (λ (w : Finding). w .usedKept)
+  found-used-kept j t = within j (in-used j t)
+
+  found-enough : Clause (λ (w : Finding). w .enough)
+  found-enough = subst (λ (A : Subset). minimum (P .altitude) ≤ count A (P .n)) (sym uses) (h .settled .fitted .enough)
+
+  found-screened : Clause (λ (w : Finding). w .screened)
+  found-screened i j s t = kept-pass (P .time) (P .«site_mm») (P .n) i j s t
+
+  found-within : Clause (λ (w : Finding). w .within)
+  found-within j t =
+      subst (λ (r : Float). T (le r five)) (sym (residual-is j)) (h .settled .noneAbove j (below-n j (in-used j t)) (in-used j t))
+
+  found-beyond : Clause (λ (w : Finding). w .beyond)
+  found-beyond j k t =
+      subst (λ (r : Float). T (lt five r)) (sym (residual-is j))
+      (h .settled .noneBack j (kept-n j k) (and-both (kept (rounds P) j) (not (S j)) k (subst (λ (A : Subset). T (not (A j))) uses t)))
+
+  found-near : Clause (λ (w : Finding). w .near)
+  found-near j t =
+      subst (λ (p : List Float). T (le (range (P .site) p j) maxRangeM)) (sym ecef-is) (is-best .near j (below-n j (in-used j t)) (in-used j t))
+
+  found-placed : Clause (λ (w : Finding). w .placed)
+  found-placed = shown (λ y. y .position) ∙ ap fromEcef (sym ecef-is)
+
+  found-above : Clause (λ (w : Finding). w .above)
+  found-above = subst (λ (q : Float). T (le minHeightM q)) (sym height-is) (flies .above)
+
+  found-below : Clause (λ (w : Finding). w .below)
+  found-below = subst (λ (q : Float). T (le q maxHeightM)) (sym height-is) (flies .below)
+
+  found-freedom : Clause (λ (w : Finding). w .freedom)
+  found-freedom = shown (λ y. y .dof) ∙ ap (dofOf R) (sym uses)
+
+  found-shows : Clause (λ (w : Finding). w .shows)
+  found-shows = (sym ecef-is, sym (shown (λ y. y .t)), sym (shown (λ y. y .chi2)))
+
   found-with : Found P x h
   found-with = record {
-    uses = uses;
-    usedKept = λ j t. within j (in-used j t);
-    enough = subst (λ (A : Subset). minimum (P .altitude) ≤ count A (P .n)) (sym uses) (h .settled .fitted .enough);
-    screened = λ i j s t. kept-pass (P .time) (P .«site_mm») (P .n) i j s t;
-    within = λ j t. subst (λ (r : Float). T (le r five)) (sym (residual-is j)) (h .settled .noneAbove j (below-n j (in-used j t)) (in-used j t));
-    beyond = λ j k t. subst (λ (r : Float). T (lt five r)) (sym (residual-is j))
-        (h .settled .noneBack j (kept-n j k) (and-both (kept (rounds P) j) (not (S j)) k (subst (λ (A : Subset). T (not (A j))) uses t)));
-    near = λ j t. subst (λ (p : List Float). T (le (range (P .site) p j) maxRangeM)) (sym ecef-is)
-        (is-best .near j (below-n j (in-used j t)) (in-used j t));
-    placed = shown (λ y. y .position) ∙ ap fromEcef (sym ecef-is);
-    above = subst (λ (q : Float). T (le minHeightM q)) (sym height-is) (flies .above);
-    below = subst (λ (q : Float). T (le q maxHeightM)) (sym height-is) (flies .below);
-    freedom = shown (λ y. y .dof) ∙ ap (dofOf R) (sym uses);
+    uses = found-uses;
+    usedKept = found-used-kept;
+    enough = found-enough;
+    screened = found-screened;
+    within = found-within;
+    beyond = found-beyond;
+    near = found-near;
+    placed = found-placed;
+    above = found-above;
+    below = found-below;
+    freedom = found-freedom;
     factor = l;
     whitens = ap (whitenerOver R) uses ∙ is-best .whitens;
     consistent = subst (λ (q : Float × Float). T (not (lt (q .0) (q .1)))) (ap₂ (λ (u v : Float). (u, v)) (sym limit-is) (sym (shown (λ y. y .chi2))))
         (past .informed .consistent .within);
-    shows = (sym ecef-is, sym (shown (λ y. y .t)), sym (shown (λ y. y .chi2)));
+    shows = found-shows;
     from = best-is .1;
     best = subst (λ (A : Subset). IsBest (chosenOver R A l) (startsOver R A (h .before)) f (best-is .1)) (sym uses) (is-best .best);
   }

@@ -1,5 +1,6 @@
 -- Demand 3 holds of the computation, and of one answer only; the laws of the code's parts; and that the covariance of a fix is
 -- symmetric.
+pub mod Clause
 pub mod Choices
 pub mod Steps
 pub mod Chains
