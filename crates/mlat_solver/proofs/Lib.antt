@@ -7,3 +7,4 @@ pub mod Display
 pub mod Written
 pub mod Solved
 pub mod Published
+pub mod ShortOutput

@@ -8,3 +8,4 @@ pub mod Displays
 pub mod Solved
 pub mod Version
 pub mod Published
+pub mod ShortOutput
