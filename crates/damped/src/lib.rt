@@ -248,7 +248,8 @@ fn tried(
 }
 
 impl Lm {
-    // One damped step from a state of this place: a turn of the loop of `levenberg_marquardt`.
+    // One damped step from a state of this place: a turn of the loop of `levenberg_marquardt`. What the
+    // seven arrays hold afterwards is open: only their room is promised.
     pub fn step(
         self,
         place: Geodetic,

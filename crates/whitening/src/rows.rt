@@ -31,7 +31,8 @@ fn squared_range(sites: &[f64; 96], i: usize, x: [f64; 3]) -> f64
     linalg::dot(delta, delta)
 }
 
-// The ranges of k receptions from the place x, metres, their roots taken together.
+// The ranges of k receptions from the place x, metres, their roots taken together. What `squared` holds
+// afterwards is open: only its room is promised.
 pub fn ranges_of(
     sites: &[f64; 96],
     k: usize,
@@ -84,7 +85,8 @@ fn squares(r: &[f64; 33], k: usize) -> f64
 }
 
 // The whitened residuals of k receptions and their ranges, over what the arrays held: gives their part
-// of the cost.
+// of the cost. What `squared` holds afterwards, and `ranges` past the k, is open: only their room is
+// promised.
 pub fn residuals(
     sites: &[f64; 96],
     z: &[f64; 32],

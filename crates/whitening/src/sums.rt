@@ -86,7 +86,8 @@ pub fn normal(
 }
 
 // The normal equations of the rows of k receptions and the altitude at the parameters p, where their
-// residuals r, their ranges and the altitude's place are known.
+// residuals r, their ranges and the altitude's place are known. What a, b, c and d hold afterwards is
+// open: only their room is promised.
 pub fn completed(
     sites: &[f64; 96],
     k: usize,
@@ -112,7 +113,7 @@ pub fn completed(
 }
 
 // The normal equations of k receptions and the altitude at the parameters p, where the altitude's place
-// is known.
+// is known. What the seven arrays hold afterwards is open: only their room is promised.
 pub fn evaluated(
     sites: &[f64; 96],
     z: &[f64; 32],
