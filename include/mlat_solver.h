@@ -156,7 +156,9 @@ typedef char mlat_record_is_176_bytes[sizeof(struct mlat_record) == MLAT_RECORD_
    the bytes of an absent one are does not matter. Returns the answer number: 0 for a fix, 1 to 15 for a refusal. For
    14, where out_len is under 176, nothing is written; bytes past 176 never change. Answer and bytes are what the
    definition gives for every input; the record of a problem (none of 7 and 10 to 15) is that of the one answer of
-   which demand 3 holds (crates/rounds/specs/Demand.antt). The altitude's 16 bytes are its kind, 1 barometric or 2
+   which demand 3 holds (crates/rounds/specs/Demand.antt). Every double of a fix but chi2 is finite, and chi2 is not
+   below 0; where chi2 is finite too, the record is taken by mlat_read_record, mlat_to_archive and mlat_to_wire, and the
+   numbers of the last by mlat_to_asterix. The altitude's 16 bytes are its kind, 1 barometric or 2
    GNSS; three zero bytes; an int32_t, what a station adds to barometric metres, in centimetres, within 100,000 either
    way and 0 for GNSS; and the metres, a double, within 100,000 either way. The solve takes metres + correction / 100,
    and the metres themselves where the correction is 0; the record shows the metres as given. Any other altitude is

@@ -1,9 +1,8 @@
 -- Whatever the solve publishes, everything downstream takes: entry's `reply-publishes` says what the record of a fix shows, and so each rule of the
 -- reader and each limit of the wire and of the items is met. Assumes nothing.
-use Prim.Native.Nat.{ℕ, zero, suc, _+_, _*_, _^_, _<_, _≤_}
+use Prim.Native.Nat.{ℕ, zero, suc, _+_, _*_, _<_, _≤_}
 use mathlib.Core.Path.{_≡_, refl, sym, ap, subst, _∙_}
-use mathlib.Core.Bool.{Bool, true, _&&_}
-use mathlib.Core.Logic.{_⊎_, inl, inr}
+use mathlib.Core.Logic.{inl, inr}
 use mathlib.Core.List.{List}
 use native.Mathlib.Omega.{arith}
 use native.Mathlib.Nat.{le-refl, le-of-suc-le-suc, eq-or-lt-of-le}
@@ -11,7 +10,7 @@ use borrow.Author.Tests.{eq-eqb}
 use lib.Dec.{T, lit≤, lit<}
 use lib.IntN.{ℤ, pos, negsuc, negℤ, natAbs}
 use lib.ListN.{length}
-use lib.Ieee.{Float, fin, neg, round, le}
+use lib.Ieee.{Float, neg, round, le}
 use lib.Ieee.Bits.{is-true}
 use lib.Ieee.Fits.{and-i}
 use mir.Syntax.{w16}
@@ -21,12 +20,11 @@ use Rattle.binary64.specs.Within.{Within}
 use Rattle.geo.specs.declared.Geodetic.{Geodetic}
 use Rattle.limits.specs.Heights.{minHeightM, maxHeightM}
 use Rattle.words.specs.Words.{f64At}
-use Rattle.record.specs.Record.{recordBytes}
 use Rattle.reader.specs.declared.content.Content.{Content}
 use Rattle.reader.specs.declared.content.Reading.{Reading}
 use Rattle.reader.specs.Rules.{answerAt, Finite, Rules}
 use Rattle.reader.specs.Read.{readOf, contentAt, fixAt}
-use Rattle.reader.specs.Meaning.{Bytes, takenApart}
+use Rattle.reader.specs.Meaning.{Bytes}
 use Rattle.reader.proofs.Fixed.{answer-read}
 use Rattle.reader.proofs.Meaning.{takes-apart-exactly}
 use Rattle.reader.proofs.Value.{fix-bytes, refusal-bytes}
@@ -52,7 +50,7 @@ use Rattle.entry.proofs.Published.{Publishes, reply-publishes}
 use Rattle.mlat_solver.specs.Solved.{solvedRecord, FiniteFloats, Moves}
 use Rattle.mlat_solver.specs.Positions.{wireOf, writtenAnswer, numbersAfter}
 use Rattle.mlat_solver.specs.Published.{OfEveryFix, FixesAreFinite, FixesLieOnEarth, ClaimsArePositive, Chi2IsNotNegative, FiniteChi2}
-use Rattle.mlat_solver.specs.Published.{ReadExactlyWhere, Taken, FixesAreTaken}
+use Rattle.mlat_solver.specs.Published.{ClaimsAreDefinite, ReadExactlyWhere, Taken, FixesAreTaken}
 use Rattle.mlat_solver.proofs.Solved.{told-refuses, answered, is-record, solved-moves}
 
 -- ---- what a fix shows
@@ -67,6 +65,9 @@ fixes-lie-on-earth I out h e = let p = published I out h e in (p .lat, p .lon)
 
 pub claims-are-positive : ClaimsArePositive
 claims-are-positive I out h e = published I out h e .variances
+
+pub claims-are-definite : ClaimsAreDefinite
+claims-are-definite I out h e = published I out h e .definite
 
 pub chi2-is-not-negative : Chi2IsNotNegative
 chi2-is-not-negative I out h e = published I out h e .chi2

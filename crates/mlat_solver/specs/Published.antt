@@ -5,13 +5,14 @@
 use Prim.Native.Nat.{ℕ, _+_, _*_, _<_, _≤_}
 use mathlib.Core.Path.{_≡_}
 use mathlib.Core.Logic.{_↔_}
-use mathlib.Core.List.{List}
+use mathlib.Core.List.{List, [], _∷_}
 use lib.Dec.{T}
 use lib.IntN.{ℤ}
-use lib.ListN.{length}
-use lib.Ieee.{lt, le}
+use lib.ListN.{length, replicate}
+use lib.Ieee.{Float, lt, le}
 use Rattle.binary64.specs.Steps.{decimal, nought}
 use Rattle.binary64.specs.Within.{Within}
+use Rattle.dense.specs.Factor.{found, cholesky}
 use Rattle.words.specs.Words.{f64At}
 use Rattle.record.specs.Record.{recordBytes}
 use Rattle.reader.specs.Rules.{Finite}
@@ -44,6 +45,17 @@ ClaimsArePositive =
     OfEveryFix (λ s.
     (axis : ℕ) → axis < 3
     → T (lt nought (f64At s (80 + 32 * axis))) × T (le (f64At s (80 + 32 * axis)) (decimal 2250000 0)))
+
+-- the nine floats of its covariance, rows in order
+abbrev pub covarianceAt : List ℕ → List Float
+covarianceAt s =
+    f64At s 80 ∷ f64At s 88 ∷ f64At s 96
+    ∷ f64At s 104 ∷ f64At s 112 ∷ f64At s 120
+    ∷ f64At s 128 ∷ f64At s 136 ∷ f64At s 144 ∷ []
+
+-- its covariance has a Cholesky factor, which linalg.rs finds in the nine floats that its bytes show
+abbrev pub ClaimsAreDefinite : Type 0
+ClaimsAreDefinite = OfEveryFix (λ s. (l : List Float) × (cholesky (covarianceAt s) 3 (replicate 9 nought) ≡ found l))
 
 -- its chi-square is a number, and not below 0: finite, or plus infinity
 abbrev pub Chi2IsNotNegative : Type 0
