@@ -1,9 +1,10 @@
--- Demand 3 holds of the bytes that are written. Assumes nothing.
+-- Demand 3 holds of the bytes that are written, and with it the promise of a solve. Assumes nothing.
 use Prim.Native.Nat.{ℕ, _^_, _≤_, _<_}
 use mathlib.Core.Path.{_≡_, sym, ap, subst, _∙_}
 use mathlib.Core.List.{List}
 use native.Mathlib.Omega.{arith}
 use native.Mathlib.Nat.{lt-of-lt-of-le}
+use borrow.Author.Tests.{lt-ltb, le-ltb}
 use mir.Syntax.{w64}
 use mir.Val.{SFits}
 use lib.Pow.{pow-mono}
@@ -25,9 +26,10 @@ use Rattle.rounds.proofs.Shown.{fix-mask, fix-dof}
 use Rattle.record.specs.declared.content.Fix.{Fix}
 use Rattle.record.specs.Record.{stored}
 use Rattle.reader.specs.Stands.{Stands}
+use Rattle.reader.proofs.Clause.{Clause}
 use Rattle.reader.proofs.Stood.{fix-stands}
 use Rattle.entry.specs.declared.Reply.{Reply}
-use Rattle.entry.specs.Reply.{recordOf, replied, reply, Demanded}
+use Rattle.entry.specs.Reply.{recordOf, replied, reply, Demanded, Promise}
 
 module _ (I : Inputs) (passes : checkInputs I ≡ Passed) where
   pub small : problemOf I .n ≤ 32
@@ -68,3 +70,34 @@ module _ (I : Inputs) (passes : checkInputs I ≡ Passed) where
             (sym (w ∙ ap (recordOf (problemOf I .n) (problemOf I .shown)) q)) (stands x q);
         alone = no-other (problemOf I);
       }
+
+-- ---- the promise, clause by clause
+module _ (I : Inputs) (out : List ℕ) where
+  -- under 176 bytes lent
+  module _ (h : length out < 176) where
+    short-answer : Clause (λ (p : Promise I out 14 out). p .answer)
+    short-answer = rw (lt-ltb (length out) 176 h)
+
+    short-output : Clause (λ (p : Promise I out 14 out). p .output)
+    short-output = rw (lt-ltb (length out) 176 h)
+
+    short-demand : Clause (λ (p : Promise I out 14 out). p .demand)
+    short-demand p l = absurd (omega (arith, h, l))
+
+    pub short-promise : Promise I out 14 out
+    short-promise = record { answer = short-answer; output = short-output; demand = short-demand }
+
+  -- 176 or more
+  module _ (h : 176 ≤ length out) (r : Reply) (after : List ℕ) (e : r ≡ reply I) (l : length (r .bytes) ≡ 176)
+      (s : after ≡ stored out (r .bytes)) where
+    whole-answer : Clause (λ (p : Promise I out (r .number) after). p .answer)
+    whole-answer = rw (le-ltb (length out) 176 h) (ap (λ (q : Reply). q .number) e)
+
+    whole-output : Clause (λ (p : Promise I out (r .number) after). p .output)
+    whole-output = rw (le-ltb (length out) 176 h) (s ∙ ap (λ (q : Reply). stored out (q .bytes)) e)
+
+    whole-demand : Clause (λ (p : Promise I out (r .number) after). p .demand)
+    whole-demand passes lent = written I passes r out after e l s
+
+    pub whole-promise : Promise I out (r .number) after
+    whole-promise = record { answer = whole-answer; output = whole-output; demand = whole-demand }

@@ -25,6 +25,7 @@ use Rattle.reader.specs.declared.content.Reading.{Reading}
 use Rattle.reader.specs.Rules.{answerAt, Finite, Rules}
 use Rattle.reader.specs.Read.{readOf, contentAt, fixAt}
 use Rattle.reader.specs.Meaning.{Bytes}
+use Rattle.reader.proofs.Clause.{Clause}
 use Rattle.reader.proofs.Fixed.{answer-read}
 use Rattle.reader.proofs.Meaning.{takes-apart-exactly}
 use Rattle.reader.proofs.Value.{fix-bytes, refusal-bytes}
@@ -169,13 +170,18 @@ module _ (s : List ℕ) (p : Publishes s) (z : answerAt s ≡ 0) (m : Moves s) w
     height = level-fits (w .height) (few 25000 perMetre (f64At s 64) (height-most (f64At s 64) (p .above) (p .below)));
   }
 
+  taken-moves : Clause (λ (t : Taken s). t .moves)
+  taken-moves = m
+
+  taken-wire : Clause (λ (t : Taken s). t .wire)
+  taken-wire = ap writtenAnswer whole
+
+  taken-asterix : Clause (λ (t : Taken s). t .asterix)
+  taken-asterix found items l =
+      subst (λ (o : Written). toAnswer (wireOf (numbersAfter o found)) items ≡ 0) (sym whole) (exports-exactly w items .0 (exported items l) .0)
+
   taken : Taken s
-  taken = record {
-    moves = m;
-    wire = ap writtenAnswer whole;
-    asterix = λ found items l. subst (λ (o : Written). toAnswer (wireOf (numbersAfter o found)) items ≡ 0) (sym whole)
-        (exports-exactly w items .0 (exported items l) .0);
-  }
+  taken = record { moves = taken-moves; wire = taken-wire; asterix = taken-asterix }
 
 pub fixes-are-taken : FixesAreTaken
 fixes-are-taken I out h e c = taken (solvedRecord I out) (published I out h e) (is-fix I out h e) (moved I out h e c)

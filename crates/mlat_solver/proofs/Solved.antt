@@ -17,6 +17,8 @@ use Rattle.record.specs.Record.{fix, refusal}
 use Rattle.reader.specs.declared.content.Reading.{Reading}
 use Rattle.reader.specs.Rules.{DetailRule, Rules}
 use Rattle.reader.specs.Meaning.{Bytes}
+use Rattle.reader.specs.Read.{readOf}
+use Rattle.reader.proofs.Clause.{Clause}
 use Rattle.reader.proofs.Meaning.{takes-apart-exactly}
 use Rattle.reader.proofs.Shown.{refusal-u64, refusal-rules, mirror-shown, metres-shown, fix-rules}
 use Rattle.reader.proofs.Value.{fix-sized, fix-bytes, refusal-sized, refusal-bytes}
@@ -38,16 +40,23 @@ mirrored s x y z =
     mirror-tested s (rw (eq-eqb (bits s 0 1) (bits s 1 0) x, eq-eqb (bits s 0 2) (bits s 2 0) y, eq-eqb (bits s 1 2) (bits s 2 1) z))
 
 module _ (s : List ℕ) (bytes : Bytes s) (sized : length s ≡ 176) (rules : Rules s) where
+  is-read : Clause (λ (m : Moves s). m .read)
+  is-read = takes-apart-exactly s bytes .1 sized rules
+
+  meets-rules : Clause (λ (m : Moves s). m .rules)
+  meets-rules = rules
+
+  unrefused : readOf s .refusal ≡ 0
+  unrefused = ap (λ (r : Reading). r .refusal) is-read
+
+  is-moved : EqualMirror s → Clause (λ (m : Moves s). m .moved)
+  is-moved m to h = moved-exactly s to .1 h unrefused m
+
+  comes-back : EqualMirror s → Clause (λ (m : Moves s). m .back)
+  comes-back m to back h g = old-comes-back s to back bytes unrefused m h g .1
+
   ruled-moves : EqualMirror s → Moves s
-  ruled-moves m =
-      let read = takes-apart-exactly s bytes .1 sized rules in
-      let unrefused = ap (λ (r : Reading). r .refusal) read in
-      record {
-        rules = rules;
-        read = read;
-        moved = λ to h. moved-exactly s to .1 h unrefused m;
-        back = λ to back h g. old-comes-back s to back bytes unrefused m h g .1;
-      }
+  ruled-moves m = record { rules = meets-rules; read = is-read; moved = is-moved m; back = comes-back m }
 
 -- ---- a refusal
 

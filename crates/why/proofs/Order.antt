@@ -13,6 +13,7 @@ use Rattle.sets.proofs.Tests.{lt-suc-cases}
 use Rattle.words.specs.Words.{putWord, putU32, putU64, putF64}
 use Rattle.words.proofs.Back.{put-length, put-keeps}
 use Rattle.record.specs.Record.{written}
+use Rattle.reader.proofs.Clause.{Clause}
 use Rattle.why.specs.declared.State.{State}
 use Rattle.why.specs.States.{numberOf, turnIn, clashesIn, residualIn, rowsAt, statesTo}
 use Rattle.why.specs.Meaning.{bytesOf, Stands, StatesStandInOrder}
@@ -159,5 +160,20 @@ module _ (out : List ℕ) (state : ℕ → State) where
           ∙ ap (λ (m : ℕ). getD (bytesOf (state m)) i 0) (sym e)
       go (inr e) earlier = outside before (20 * k) (state k) (20 * j + i) (inl (omega arith)) ∙ earlier e
 
+-- ---- clause by clause
+module _ (out : List ℕ) (state : ℕ → State) (k : ℕ) where
+  abbrev InOrder : Type 0
+  InOrder = Stands out state k (statesTo out state k)
+
+  stand-sized : Clause (λ (s : InOrder). s .sized)
+  stand-sized = states-length out state k
+
+  stand-told : 20 * k ≤ length out → Clause (λ (s : InOrder). s .told)
+  stand-told l = told out state k l
+
+  stand-past : Clause (λ (s : InOrder). s .past)
+  stand-past = past out state k
+
 pub states-stand-in-order : StatesStandInOrder
-states-stand-in-order out state k l = record { sized = states-length out state k; told = told out state k l; past = past out state k }
+states-stand-in-order out state k l =
+    record { sized = stand-sized out state k; told = stand-told out state k l; past = stand-past out state k }

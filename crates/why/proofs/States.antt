@@ -60,11 +60,20 @@ module _ (P : Problem) (N : P .n ≤ 32) (x : Fix) (solved : solveProblem P ≡ 
           let q : true ≡ false = sym (lt-ltb 0 turn (removed-or-kept (P .n) (clashing P) j below .0 f)) ∙ e in
           absurd (let z : _≡_ {A = ℕ} 0 1 = cc in omega arith)
 
+  used-holds : T (usedBy P x j) → Holds P x j (Used (residualAt P x j))
+  used-holds t = used t
+
+  removed-holds : ltb 0 turn ≡ true → Holds P x j (Removed turn clash)
+  removed-holds q = removed turn clash (turn-is-of-removal (P .n) (clashing P) j turn clash .1 (ltb-true 0 turn q, refl, refl))
+
+  left-out-holds : ltb 0 turn ≡ false → T (not (usedBy P x j)) → Holds P x j (LeftOut (residualAt P x j))
+  left-out-holds q f = leftOut (stays q) f (found .beyond j (stays q) f)
+
   given : (u r : Bool) → usedBy P x j ≡ u → ltb 0 turn ≡ r
       → Holds P x j (cond u (Used (residualAt P x j)) (cond r (Removed turn clash) (LeftOut (residualAt P x j))))
-  given true r e q = used (eq→T e)
-  given false true e q = removed turn clash (turn-is-of-removal (P .n) (clashing P) j turn clash .1 (ltb-true 0 turn q, refl, refl))
-  given false false e q = leftOut (stays q) (eq→F e) (found .beyond j (stays q) (eq→F e))
+  given true r e q = used-holds (eq→T e)
+  given false true e q = removed-holds q
+  given false false e q = left-out-holds q (eq→F e)
 
   holds : Holds P x j (stateOf P x j)
   unfolding stateOf
