@@ -99,6 +99,15 @@ impl Recording {
         }
     }
 
+    /// Entries of the factor of 0, of either sign, left of the diagonal: what stands above in q does not show through them.
+    fn passed_over(&mut self) {
+        for zero in [0.0, -0.0] {
+            let factor = Cholesky { n: 2, l: vec![2.0, 0.0, zero, 4.0] };
+            let q = [f64::INFINITY, f64::NAN, 1.0, 3.0];
+            self.call(Call::ForwardRows, 0, 2, 2, &factor.l, &q, &factor.forward_rows(&q, 2));
+        }
+    }
+
     fn over(&mut self, n: usize) {
         let out = [FOUND; 33];
         self.call(Call::ForwardRows, WRONG_SIZE, 1, n, &[1.0], &vec![1.0; n], &vec![FOUND; n]);
@@ -129,6 +138,7 @@ fn main() {
     for n in [33, 64, 255] {
         recording.over(n);
     }
+    recording.passed_over();
     std::fs::write(&path, &recording.bytes).expect("the recording is written");
     let count: u32 = recording.numbers.values().sum();
     println!("{count} calls, {} bytes", recording.bytes.len());

@@ -1,7 +1,8 @@
 // Replays recorded results of the public fdlibm, so that a gate needs no other implementation at hand. Standard input
 // holds records of four 64-bit words, little-endian: the function (0 sin, 1 cos, 2 atan2, 3 hypot), its arguments, and
-// the result's bits. Prints how many were compared and how many differ; and how many were compared with a falsified
-// result, and how many of those differ, which is to be all. All not-a-numbers count as one value.
+// the result's bits. Sines and cosines are asked of `mlat_sincos` too. Prints how many were compared and how many
+// differ; and how many were compared with a falsified result, and how many of those differ, which is to be all. All
+// not-a-numbers count as one value.
 use cases::Compared;
 use cases::Tally;
 use libc::STDOUT_FILENO;
@@ -9,15 +10,28 @@ use libc::STDOUT_FILENO;
 // What the function of a record gives.
 fn result(function: u64, a: f64, b: f64) -> f64 {
     if function == 0 {
-        return libm::sin(a);
+        return mlat_solver::mlat_sin(a);
     }
     if function == 1 {
-        return libm::cos(a);
+        return mlat_solver::mlat_cos(a);
     }
     if function == 2 {
-        return libm::atan2(a, b);
+        return mlat_solver::mlat_atan2(a, b);
     }
-    libm::hypot(a, b)
+    mlat_solver::mlat_hypot(a, b)
+}
+
+// Whether the pair of sine and cosine has these bits at its place; it has no other result.
+fn is_in_pair(function: u64, a: f64, bits: u64) -> bool {
+    let mut pair = [0.0; 2];
+    mlat_solver::mlat_sincos(a, &mut pair);
+    if function == 0 {
+        return is_result(pair[0], bits);
+    }
+    if function == 1 {
+        return is_result(pair[1], bits);
+    }
+    true
 }
 
 // A result is falsified in the highest bit of its exponent: that changes every number, and a not-a-number into one.
@@ -32,9 +46,10 @@ fn tried(record: &[u8; 32]) -> Compared {
     let a = words::f64_at(record, 8);
     let b = words::f64_at(record, 16);
     let recorded = words::u64_at(record, 24);
-    let result = result(words::u64_at(record, 0), a, b);
+    let function = words::u64_at(record, 0);
+    let result = result(function, a, b);
     Compared {
-        same: is_result(result, recorded),
+        same: is_result(result, recorded) && is_in_pair(function, a, recorded),
         same_falsified: is_result(result, recorded ^ EXPONENT),
     }
 }

@@ -53,18 +53,18 @@ fn alike(values: &[f64; 1024], count: usize, bytes: &[u8; 8192]) -> bool {
 // The call of this number.
 fn called(call: u8, n: usize, width: usize, first: &[f64], second: &[f64], out: &mut [f64]) -> u32 {
     if call == 0 {
-        return matrices::sandwich(n, first, second, out);
+        return mlat_solver::mlat_sandwich(n, first, second, out);
     }
     if call == 1 {
-        return matrices::forward_rows(n, width, first, second, out);
+        return mlat_solver::mlat_forward_rows(n, width, first, second, out);
     }
     if call == 2 {
-        return matrices::inverse_triangular(n, first, out);
+        return mlat_solver::mlat_inverse_triangular(n, first, out);
     }
     if call == 3 {
-        return matrices::inverse_diagonal(n, first, out);
+        return mlat_solver::mlat_inverse_diagonal(n, first, out);
     }
-    matrices::cholesky(n, first, out)
+    mlat_solver::mlat_cholesky(n, first, out)
 }
 
 // The next numbers, of which there are so many.
