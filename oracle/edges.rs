@@ -10,6 +10,7 @@ use crate::record::record;
 use crate::scene::{Reception, Scene};
 use crate::sky;
 use crate::solve::{self, AMBIGUOUS_COST, MAX_RANGE_M, Params, Problem, SCREEN_MARGIN_MM, chi2_limit, isqrt, published};
+use crate::ties;
 use crate::trace::{Change, trace};
 use crate::tune::Search;
 
@@ -18,13 +19,14 @@ pub type Edge = (&'static str, fn(&mut Random) -> Option<Vec<Scene>>, &'static [
 
 pub const SEED: u64 = 77;
 
-pub const EDGES: [Edge; 20] = [
+pub const EDGES: [Edge; 24] = [
     ("a residual of exactly 5 stays", five_stays, &[6]),
     ("a residual of exactly 5 comes back", five_returns, &[2578, 2700, 3057]),
     ("a range of exactly 600,000 m", range, &[20, 30]),
     ("a height of exactly 25,000 m", |random| height(random, 25_000.0), &[1, 2, 3]),
     ("a height of exactly -1,500 m", |random| height(random, -1_500.0), &[1, 3, 4]),
     ("a rival that costs exactly 9 more", rival, &[234, 960, 1705]),
+    ("two fits of one cost", one_cost, &[579, 803, 1582]),
     ("a variance of exactly 1,500²", variance, &[9, 41, 49]),
     ("a cost beside its limit", |random| limit(random, 1.0), &[4, 11, 21]),
     ("a cost beside its limit, tiny noise", |random| limit(random, 1e-6), &[0, 2, 3]),
@@ -39,6 +41,9 @@ pub const EDGES: [Edge; 20] = [
     ("rounds that settle in the very last one", climb::last_round, &[2001, 2285]),
     ("rounds that settle one too late", climb::one_round_late, &[2279, 2285]),
     ("the same beside a removed reception", climb::one_round_late_of_kept, &[2279, 2285]),
+    ("a cost of exactly its limit", ties::cost, &[9, 15, 57]),
+    ("a second fit 9 dearer, by one rounding of two", ties::nine, &[36745]),
+    ("Bancroft's equation linear", ties::linear, &[107, 1147, 1454]),
 ];
 
 /// The answer to a problem.
@@ -46,7 +51,7 @@ pub fn answer(scene: &Scene) -> u32 {
     record(&scene.files()).0
 }
 
-fn all(scene: &Scene) -> Vec<usize> {
+pub fn all(scene: &Scene) -> Vec<usize> {
     (0..scene.n()).collect()
 }
 
@@ -64,7 +69,7 @@ fn place(params: &Params) -> [f64; 3] {
 }
 
 /// z of each reception as x has it, without error; times to match.
-fn hears(scene: &Scene, x: [f64; 3]) -> Scene {
+pub fn hears(scene: &Scene, x: [f64; 3]) -> Scene {
     let mut scene = scene.clone();
     let path = |r: &Reception| norm(sub(x, geo::from_mm(r.site_mm)));
     let first = scene.receptions.iter().map(path).fold(f64::INFINITY, f64::min);
@@ -75,7 +80,7 @@ fn hears(scene: &Scene, x: [f64; 3]) -> Scene {
     scene
 }
 
-fn sound(random: &mut Random, n: usize, with_altitude: bool) -> Scene {
+pub fn sound(random: &mut Random, n: usize, with_altitude: bool) -> Scene {
     let mut scene = sky::sound(random, n, with_altitude).scene;
     scene.clock = Some(vec![0.0; n * n]);
     scene
@@ -161,7 +166,7 @@ fn height(random: &mut Random, target: f64) -> Option<Vec<Scene>> {
 }
 
 /// The best plausible fit of the first round, and each other plausible one with its distance from the best.
-fn rivals(scene: &Scene) -> Option<(parts::Fitted, Vec<(parts::Fitted, f64)>)> {
+pub fn rivals(scene: &Scene) -> Option<(parts::Fitted, Vec<(parts::Fitted, f64)>)> {
     let (problem, subset) = (scene.problem(), all(scene));
     let fits = problem.starts(&subset).into_iter().filter_map(|start| parts::levenberg_marquardt(&problem, &subset, start));
     let fits: Vec<parts::Fitted> = fits.filter(|fit| problem.plausible(&subset, &fit.params)).collect();
@@ -194,6 +199,16 @@ fn rival(random: &mut Random) -> Option<Vec<Scene>> {
     let number = |scene: &Scene| surplus(scene);
     let found = Search { low: 1e-2, high: 1e9, scene: &noisy, number: &number, target: 0.0, tries: 300 }.run(random)?;
     (answer(&found[0]) == 8 && answer(&found[1]) != 8).then_some(found)
+}
+
+/// Fits from two starts that cost the same to the bit and are not the same: the record shows the earlier one.
+fn one_cost(random: &mut Random) -> Option<Vec<Scene>> {
+    let (n, with_altitude) = (4 + random.below(4), random.below(2) == 0);
+    let scene = sound(random, n, with_altitude);
+    let (best, others) = rivals(&scene)?;
+    let later = others.iter().any(|(fit, _)| fit.cost == best.cost && fit.params != best.params);
+    let shown = record(&scene.files()).1[16..48] == best.params.map(f64::to_le_bytes).concat()[..];
+    (later && shown && answer(&scene) == 0).then(|| vec![scene])
 }
 
 /// The noise of all receptions is raised until the greatest variance is 1,500².

@@ -42,17 +42,29 @@ impl Search<'_> {
         Some(vec![(self.scene)(below), (self.scene)(above)])
     }
 
+    /// A scene about the target, its bits moved by some.
+    fn tried(&self, random: &mut Random, low: f64, high: f64) -> Scene {
+        let reach = 1 << random.below(20);
+        let by = random.whole(-reach, reach) as f64;
+        let mut scene = (self.scene)(low + by * (high - low));
+        let i = random.below(scene.n());
+        let r = &mut scene.receptions[i];
+        r.noise = f64::from_bits(r.noise.to_bits() + random.below(reach as usize) as u64).clamp(1e-6, 1e12);
+        scene
+    }
+
+    /// The first of those tried that is as asked for.
+    pub fn neighbour(&self, random: &mut Random, asked: &dyn Fn(&Scene) -> bool) -> Option<Scene> {
+        let (low, high) = self.bisected()?;
+        (0..self.tries).map(|_| self.tried(random, low, high)).find(asked)
+    }
+
     /// A scene at the target, and the nearest above and below it that were tried. Each try moves u, and a noise, by some of their last bits.
     pub fn run(&self, random: &mut Random) -> Option<Vec<Scene>> {
         let (low, high) = self.bisected()?;
         let (mut exact, mut above, mut below) = (None, None, None);
         for _ in 0..self.tries {
-            let reach = 1 << random.below(20);
-            let by = random.whole(-reach, reach) as f64;
-            let mut scene = (self.scene)(low + by * (high - low));
-            let i = random.below(scene.n());
-            let r = &mut scene.receptions[i];
-            r.noise = f64::from_bits(r.noise.to_bits() + random.below(reach as usize) as u64).clamp(1e-6, 1e12);
+            let scene = self.tried(random, low, high);
             let off = (self.number)(&scene)? - self.target;
             let side: &mut Option<(f64, Scene)> = if off == 0.0 {
                 &mut exact

@@ -1,7 +1,7 @@
 // Replays recorded calls of roots, rounding, geodesy and the claims of a fix: standard input holds them one after the
-// other, in the form that RECORDING.md beside this program states. Prints how many were compared and how many differ, in
-// any bit of a result; how many were compared with a falsified result, and how many of those differ, which is to be all:
-// the last bit of the first result is changed; and the library's version. All not-a-numbers count as one value.
+// other, in the form that RECORDING.md beside this program states. Prints how many were compared and how many differ,
+// in any bit of a result; how many were compared with a falsified result, and how many of those differ, which is to be
+// all: the last bit of the first result is changed; and the library's version. All not-a-numbers count as one value.
 ghost use Prim.Native.Nat.{_+_, _*_, _≤_};
 use cases::Compared;
 use cases::Tally;

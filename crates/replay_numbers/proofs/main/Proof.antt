@@ -1,5 +1,5 @@
--- `replay_numbers::main` ends: each turn adds a case, of a million at most. The invariant: no more differ than were compared, as recorded and falsified.
--- Assumes nothing.
+-- `replay_numbers::main` ends: each turn adds a case, of a million at most. The invariant: no more differ than were compared, as recorded and
+-- falsified. Assumes nothing.
 use Prim.Native.Nat.{_-_, _≤_}
 use native.Mathlib.Omega.{arith}
 use borrow.Author.Needs.{needs}
