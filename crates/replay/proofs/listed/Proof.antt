@@ -1,4 +1,5 @@
--- `replay::listed` is safe: the bytes hold the list (`of-bytes-requires`), and each part of the memory that is lent is as long as it is to be (`length-take-le`). Assumes nothing.
+-- `replay::listed` is safe: the bytes hold the list, and each part of the memory that is lent is as long as it is to be (`length-take-le`).
+-- Assumes nothing.
 use borrow.Author.Needs.{needs}
 use mathlib.Core.Path.{sym}
 use native.Mathlib.Omega.{arith}

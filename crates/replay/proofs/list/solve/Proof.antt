@@ -176,7 +176,8 @@ module _ {M : Type 1} (𝓤 : URA M) (H : Heap 𝓤) (A : Atoms 𝓤) (W : Given
       use1 W (‵ (partAt LR fullShare ys l 0)) (array-whole 𝓤 H A W R fullShare 124 ys l 0) $ fpick ! (λ vs. fsplit ! $ move ! (1 ∷ []) $
       peeks ! LR (Is LR) (shows 𝓤 H A LR) ys vs (λ is.
       rewrite ! 0 (λ (us : List Val). ‵ (LR .own ys us)) (array-tells R vals (LL.tells T.the-type T′.the-laws) 124 ys vs is) refl $
-      rewrite ! 1 (λ (us : List Val). ‵ (cellAt fullShare (LR .mir) us l 0)) (array-tells R vals (LL.tells T.the-type T′.the-laws) 124 ys vs is) refl $
+      rewrite ! 1 (λ (us : List Val). ‵ (cellAt fullShare (LR .mir) us l 0)) (array-tells R vals (LL.tells T.the-type T′.the-laws) 124 ys vs is)
+      refl $
       move ! (1 ∷ []) $ use1 W (‵ (fat fullShare arr l 0 (mach ys))) (W .laws .raw-at fullShare arr l 0 (mach ys)) $ frame ! $ done !))
 
   -- the first n elements, as a shared slice holds them, and the others
@@ -235,7 +236,8 @@ module _ {M : Type 1} (𝓤 : URA M) (H : Heap 𝓤) (A : Atoms 𝓤) (W : Given
       qed W (Tokens ∷ ‵ (finally u8 γ zs) ∷ ‵ (u32 .own r (z ∷ [])) ∷ []) ∵
       suffices ! _ (ends-at 𝓤 H A entry.ended stayed (entry.clauses 𝓤 H A mem′ run) W Passed z r (tt, (tt, (tt, (tt, (tt, (tt, (zs, tt)))))))
       (tt, (tt, (tt, (tt, (tt, (tt, (l, tt)))))))) $
-      nothing ! $ move ! (2 ∷ 0 ∷ []) $ fjoin ! $ nothing ! $ fjoin ! $ nothing ! $ fjoin ! $ nothing ! $ fjoin ! $ nothing ! $ fjoin ! $ nothing ! $ fjoin ! $ nothing !
+      nothing ! $ move ! (2 ∷ 0 ∷ []) $ fjoin ! $ nothing ! $ fjoin ! $ nothing ! $ fjoin ! $ nothing ! $ fjoin ! $ nothing ! $ fjoin ! $
+      nothing ! $ fjoin ! $ nothing !
       $ fjoin ! $
       -- [the last bytes; the tokens; the result]
       move ! (0 ∷ 2 ∷ []) $ join ! $ move ! (1 ∷ 0 ∷ []) $ join ! $ frame ! $ done !
@@ -279,7 +281,8 @@ module _ {M : Type 1} (𝓤 : URA M) (H : Heap 𝓤) (A : Atoms 𝓤) (W : Given
         $ fsplit ! $ fsplit ! $ move ! (1 ∷ []) $ feqL ! (λ m.
         show ! (λ (zs′ : List ℕ). mean 𝓤 H A (Said zs′)) zs $ says ! m $ keep ! (0 ∷ []) $ done !)))
 
-  module _ (gn : n < 2 ^ 64) (few : n ≤ 124) (room₀ : Room u8 (length (now s₀))) (room₁ : Room u8 (length (now s₁))) (room₂ : Room u8 (length (now s₂)))
+  module _ (gn : n < 2 ^ 64) (few : n ≤ 124) (room₀ : Room u8 (length (now s₀))) (room₁ : Room u8 (length (now s₁)))
+      (room₂ : Room u8 (length (now s₂)))
       (small : present < 2 ^ 32) (room₃ : Room u8 (length ys))
       (𝓣 : Tables 𝓤 H) (known : Triple 𝓤 (𝓣 .C #callee) (Solve 𝓤 H A mem′ run)) where
     abbrev C : Calls 𝓤 H
@@ -293,7 +296,8 @@ module _ {M : Type 1} (𝓤 : URA M) (H : Heap 𝓤) (A : Atoms 𝓤) (W : Given
 
     module _ (l₀ l₁ l₂ l₃ l₄ l₅ l₆ l₇ l₈ l₉ l₁₀ l₁₁ l₁₂ : ℕ) where
       abbrev En : Env 𝓤 H
-      En = (half, l₀) ∷ (arr, l₁) ∷ (word, l₂) ∷ (bytes 0, l₃) ∷ (bytes 1, l₄) ∷ (bytes 2, l₅) ∷ (half, l₆) ∷ (outTy, l₇) ∷ (arr, l₈) ∷ (lentArr, l₉) ∷
+      En = (half, l₀) ∷ (arr, l₁) ∷ (word, l₂) ∷ (bytes 0, l₃) ∷ (bytes 1, l₄) ∷ (bytes 2, l₅) ∷ (half, l₆) ∷ (outTy, l₇) ∷ (arr, l₈) ∷
+          (lentArr, l₉) ∷
           (slice, l₁₀) ∷ (at, l₁₁) ∷ (inTy, l₁₂) ∷ []
 
       -- the output, the parameters and the result in memory, before what else is had
@@ -301,7 +305,8 @@ module _ {M : Type 1} (𝓤 : URA M) (H : Heap 𝓤) (A : Atoms 𝓤) (W : Given
       Params Γ = ‵ (fat fullShare outTy l₇ 0 (val x)) ∷ ‵ (fdies outTy l₇) ∷ ‵ (fat fullShare half l₆ 0 (vint w32 present)) ∷ ‵ (fdies half l₆) ∷ ‵
           (fat fullShare (bytes 2) l₅ 0 (val s₂)) ∷ ‵ (fdies (bytes 2) l₅)
           ∷ ‵ (fat fullShare (bytes 1) l₄ 0 (val s₁)) ∷ ‵ (fdies (bytes 1) l₄) ∷ ‵ (fat fullShare (bytes 0) l₃ 0 (val s₀)) ∷ ‵ (fdies (bytes 0) l₃) ∷
-          ‵ (fat fullShare word l₂ 0 (vint w64 n)) ∷ ‵ (fdies word l₂) ∷ ‵ (fat fullShare arr l₁ 0 (mach ls)) ∷ ‵ (fdies arr l₁) ∷ ‵ (froom half l₀ 0) ∷ ‵
+          ‵ (fat fullShare word l₂ 0 (vint w64 n)) ∷ ‵ (fdies word l₂) ∷ ‵ (fat fullShare arr l₁ 0 (mach ls)) ∷ ‵ (fdies arr l₁) ∷
+          ‵ (froom half l₀ 0) ∷ ‵
           (fdies half l₀) ∷ Γ
 
       -- what the local list's elements are, once the call is over
@@ -310,7 +315,8 @@ module _ {M : Type 1} (𝓤 : URA M) (H : Heap 𝓤) (A : Atoms 𝓤) (W : Given
 
       -- from where the first n elements are lent
       calls : (α : ℕ) (γ₁ : GName) → length ls ≡ 124
-          → Sq W ((‵ (flft (α ∷ []) fullShare) ⊛ Tokens) ∷ ‵ (fsep (Own α l₈ γ₁) Others) ∷ ‵ (Back α) ∷ ‵ (Rest n ls l₈) ∷ ‵ (fat fullShare inTy l₁₂ 0 (val x)) ∷ ‵ (fdies inTy l₁₂)
+          → Sq W ((‵ (flft (α ∷ []) fullShare) ⊛ Tokens) ∷ ‵ (fsep (Own α l₈ γ₁) Others) ∷ ‵ (Back α) ∷ ‵ (Rest n ls l₈) ∷
+          ‵ (fat fullShare inTy l₁₂ 0 (val x)) ∷ ‵ (fdies inTy l₁₂)
           ∷ ‵ (fat fullShare at l₁₁ 0 (vptr b o)) ∷ ‵ (fdies at l₁₁) ∷ ‵ (fat fullShare slice l₁₀ 0 (v α l₈ γ₁)) ∷ ‵ (fdies slice l₁₀)
           ∷ ‵ (fat fullShare lentArr l₉ 0 (vptr l₈ 0)) ∷ ‵ (fdies lentArr l₉) ∷ ‵ (fdies arr l₈) ∷ Params [])
           (runs C Λ En mc.t-6 (atRet En Post))
@@ -335,7 +341,8 @@ module _ {M : Type 1} (𝓤 : URA M) (H : Heap 𝓤) (A : Atoms 𝓤) (W : Given
           move ! (0 ∷ 4 ∷ []) $ lent-back ! tt $ move ! (0 ∷ 4 ∷ []) $ use2 W (‵ (row R fullShare ls l₈ 0)) (joins 𝓤 H A W n ls l₈) $
           use1 W (‵ (fat fullShare arr l₈ 0 (mach ls)) ⊛ ‵ (LR .own ls (mach ls ∷ []))) (together 𝓤 H A W ls l₈ len) $ split ! $
           -- [_8; what the list owns; the other tokens; the result; the last bytes; _12; …; _9; …; _8's right to be freed; _7; …; _0; …]
-          returns ! (look ! 28 refl) $ forget ! 0 refl $ forget ! 5 refl $ forget ! 7 refl $ forget ! 9 refl $ forget ! 11 refl $ forget ! 14 refl $ forget ! 16 refl
+          returns ! (look ! 28 refl) $ forget ! 0 refl $ forget ! 5 refl $ forget ! 7 refl $ forget ! 9 refl $ forget ! 11 refl $
+          forget ! 14 refl $ forget ! 16 refl
           $ forget ! 18 refl $ forget ! 20 refl $ forget ! 22 refl $ forget ! 24 refl $ forget ! 26 refl $ forget ! 28 refl $
           move ! (28 ∷ 29 ∷ []) $ free1 ! $ move ! (26 ∷ 27 ∷ []) $ free1 ! $ move ! (24 ∷ 25 ∷ []) $ free1 ! $ move ! (22 ∷ 23 ∷ []) $ free1 !
           $ move ! (20 ∷ 21 ∷ []) $ free1 ! $ move ! (18 ∷ 19 ∷ []) $ free1 ! $ move ! (16 ∷ 17 ∷ []) $ free1 ! $ move ! (14 ∷ 15 ∷ []) $ free1 !
@@ -344,7 +351,8 @@ module _ {M : Type 1} (𝓤 : URA M) (H : Heap 𝓤) (A : Atoms 𝓤) (W : Given
           keep ! (1 ∷ 3 ∷ 2 ∷ []) $ by ! (exits r z zs m))))))
 
       -- from where the parameters are passed
-      begins : Is LR ls (mach ls ∷ []) → Sq W (‵ (froom inTy l₁₂ 0) ∷ ‵ (fdies inTy l₁₂) ∷ ‵ (froom at l₁₁ 0) ∷ ‵ (fdies at l₁₁) ∷ ‵ (froom slice l₁₀ 0) ∷ ‵
+      begins : Is LR ls (mach ls ∷ []) → Sq W (‵ (froom inTy l₁₂ 0) ∷ ‵ (fdies inTy l₁₂) ∷ ‵ (froom at l₁₁ 0) ∷ ‵ (fdies at l₁₁) ∷
+          ‵ (froom slice l₁₀ 0) ∷ ‵
           (fdies slice l₁₀) ∷ ‵ (froom lentArr l₉ 0) ∷ ‵ (fdies lentArr l₉) ∷ ‵ (froom arr l₈ 0) ∷ ‵ (fdies arr l₈)
           ∷ Params (Tokens ∷ ‵ (fsep (LR .own ls (mach ls ∷ [])) (fsep (usize .own n (vint w64 n ∷ [])) Others)) ∷ []))
           (runs C Λ En mc.t-1 (atRet En Post))
@@ -353,7 +361,8 @@ module _ {M : Type 1} (𝓤 : URA M) (H : Heap 𝓤) (A : Atoms 𝓤) (W : Given
           -- [what the list owns; what the others own; _12; …; _0; …; the tokens]
           assigns ! (of-opd ! (load ! (from ! (stop !)) (look ! 24 refl))) (from ! (stop !)) (init ! 10 refl (list-typed 𝓤 H A W ls (mach ls) is)) $
           assigns ! (addr ! (from ! (stop !))) (from ! (stop !)) (init ! 8 refl (tt, tt)) $
-          assigns ! (agg ! (and-then ! (load ! (from ! (stop !)) (look ! 8 refl)) (and-then ! (load ! (from ! (stop !)) (look ! 22 refl)) (no-more !))))
+          assigns ! (agg ! (and-then ! (load ! (from ! (stop !)) (look ! 8 refl))
+          (and-then ! (load ! (from ! (stop !)) (look ! 22 refl)) (no-more !))))
           (from ! (stop !)) (init ! 6 refl (tt, (tt, (record { fits = gn }, tt)))) $
           assigns ! (addr ! (from ! (fld ! refl (hop ! (look-in ! 12 (sub ! 0 refl (whole !))) (stop !))))) (from ! (stop !))
           (init ! 4 refl (tt, tt)) $
@@ -361,11 +370,14 @@ module _ {M : Type 1} (𝓤 : URA M) (H : Heap 𝓤) (A : Atoms 𝓤) (W : Given
           (and-then ! (load ! (from ! (fld ! refl (stop !))) (look-in ! 12 (sub ! 1 refl (whole !)))) (no-more !)))) (from ! (stop !))
           (init ! 2 refl (tt, (tt, (record { fits = room₃ .0 }, tt)))) $
           -- the list's elements, of which the first n are lent for a new lifetime
-          move ! (10 ∷ 0 ∷ []) $ use2 W (‵ (arr-parts (shares R) 124 .part fullShare ls l₈ 0)) (apart 𝓤 H A W ls (mach ls) l₈) $ fsplit ! $ feqL ! (λ len.
-          use1 W (‵ (arr-parts (shares R) (length (take n ls)) .part fullShare (take n ls) l₈ 0) ⊛ ‵ (Rest n ls l₈)) (cuts 𝓤 H A W n ls l₈) $ split ! $
+          move ! (10 ∷ 0 ∷ []) $ use2 W (‵ (arr-parts (shares R) 124 .part fullShare ls l₈ 0)) (apart 𝓤 H A W ls (mach ls) l₈) $ fsplit ! $
+          feqL ! (λ len.
+          use1 W (‵ (arr-parts (shares R) (length (take n ls)) .part fullShare (take n ls) l₈ 0) ⊛ ‵ (Rest n ls l₈)) (cuts 𝓤 H A W n ls l₈) $
+          split ! $
           -- [the first n; the rest; what the others own; _12; …]
           lft-new ! tt (λ α. move ! (1 ∷ []) $
-          use1 W (later (some (λ (γ₁ : GName). ‵ (Own α l₈ γ₁) ⊛ ‵ (Back α)))) (lends-shr-slice 𝓤 H A W R (named 0) (α ∷ []) fullShare (take n ls) l₈ 0
+          use1 W (later (some (λ (γ₁ : GName). ‵ (Own α l₈ γ₁) ⊛ ‵ (Back α))))
+          (lends-shr-slice 𝓤 H A W R (named 0) (α ∷ []) fullShare (take n ls) l₈ 0
           (room-take R 124 n ls len (lit< tt, lit< tt))) $ await ! tt $ pick ! (λ γ₁. split ! $
           -- [what the slice owns; the way back; the token; the rest; what the others own; _12; …; _0; …; the tokens]
           move ! (2 ∷ 30 ∷ []) $ join ! $ move ! (1 ∷ 4 ∷ []) $ fjoin ! $
