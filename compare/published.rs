@@ -7,12 +7,12 @@ mod port_asterix;
 mod port_solve;
 #[allow(dead_code)]
 mod port_wire;
-mod steep;
 
 use oracle::kinds::SCENES;
 use oracle::random::Random;
 use oracle::record::{self, LENGTH};
 use oracle::scene::Files;
+use oracle::steep;
 use std::io::Write;
 use std::time::Instant;
 

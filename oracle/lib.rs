@@ -29,6 +29,7 @@ pub mod random;
 pub mod record;
 pub mod scene;
 pub mod sky;
+pub mod steep;
 pub mod ties;
 pub mod trace;
 mod tune;

@@ -12,6 +12,7 @@ use oracle::random::Random;
 use oracle::record;
 use oracle::scene::{Files, RECEPTION, Scene};
 use oracle::sky;
+use oracle::steep;
 use oracle::trace::{Change, Trace, trace};
 
 const MOST_BYTES: usize = 4_000_000;
@@ -187,6 +188,8 @@ fn main() {
     let mut recording = Recording::default();
     whole_outputs(&mut recording);
     edges(&mut recording);
+    recording.keep(&steep::files());
+    recording.keep(&steep::files_off());
     identities(&mut recording);
     corrections(&mut recording);
     kinds(&mut recording, 1, 9, 1);

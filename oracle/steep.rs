@@ -1,7 +1,7 @@
 //! A problem whose fix has a chi-square of plus infinity: a clock covariance so nearly singular that a whitened residual and a whitened slope both overflow when they
 //! are squared, the one in chi-square and the other in its limit. docs/DIFFERENCES.md says how.
 
-use oracle::scene::Files;
+use crate::scene::{Files, RECEPTION};
 
 const N: usize = 32;
 
@@ -86,4 +86,17 @@ pub fn files() -> Files {
     let mut altitude = vec![1, 0, 0, 0, 0, 0, 0, 0];
     altitude.extend(HEIGHT.to_le_bytes());
     Files { receptions: Some(receptions), clock: Some(clock), altitude: Some(altitude), reference: None }
+}
+
+/// The same with z of reception 24 a metre more: no candidate of a step has a finite cost, and the last plain step is not short, so no start converges. An original that took
+/// steps to an infinite cost would give a fix.
+pub fn files_off() -> Files {
+    let mut files = files();
+    for receptions in files.receptions.iter_mut() {
+        let at = 24 * RECEPTION + 108;
+        let mut z = [0; 8];
+        z.copy_from_slice(&receptions[at..at + 8]);
+        receptions[at..at + 8].copy_from_slice(&(f64::from_le_bytes(z) + 1.0).to_le_bytes());
+    }
+    files
 }
