@@ -188,7 +188,6 @@ fn main() {
     let mut recording = Recording::default();
     whole_outputs(&mut recording);
     edges(&mut recording);
-    recording.keep(&steep::files());
     recording.keep(&steep::files_off());
     identities(&mut recording);
     corrections(&mut recording);

@@ -56,7 +56,7 @@ class Recorded(unittest.TestCase):
             self.assertEqual(solve_record(files), record)
             self.assertEqual(held(solve(files)), held(read(record)))
             count += 1
-        self.assertEqual(count, 2448)
+        self.assertEqual(count, 2447)
 
     def test_problems(self):
         count = 0

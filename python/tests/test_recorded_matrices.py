@@ -56,7 +56,7 @@ class Matrices(unittest.TestCase):
             found = lent(kind, sizes, inputs, after)
             self.assertEqual(found, (number, after))
             told += found != recordings.falsified(number, after, k) and found != (number ^ 1, after)
-        self.assertEqual(told, 902)
+        self.assertEqual(told, 904)
 
     def test_package(self):
         told, refused = 0, {}
