@@ -1,5 +1,7 @@
 // Fix records in the archive's form, with six covariance entries for nine: document 02, item 7. `to_archive` moves a
 // record of 176 bytes to one of 152, `from_archive` moves it back. Bytes are copied as they are.
+#![tactic(auto)]
+
 ghost use Rattle.std.specs.Prelude.{◌≡◌, ◌+◌, ◌≤◌, eqb, length, drop};
 ghost use Rattle.std.proofs.Math.Seq.{paste};
 ghost use Rattle.archive.specs.Forms as forms;

@@ -1,5 +1,7 @@
 // Document 02, item 13: positions as items I020/041 and I020/105 of Eurocontrol's category 020, from the
 // wire's numbers; the three multiples of such items, and the items of three multiples.
+#![tactic(auto)]
+
 ghost use Rattle.std.specs.Prelude.{◌≡◌, ◌+◌, ◌*◌, ◌%◌, ◌^◌, ◌<◌, ◌≤◌, nat_abs, pos, ◌*ℤ◌, length};
 ghost use Rattle.std.specs.Int.{w32};
 ghost use Rattle.std.proofs.Common.{of_z};
@@ -28,7 +30,7 @@ const SIGN_OF_FOUR: u64 = 0x8000_0000;
 const SIGN_OF_TWO: u64 = 0x8000;
 
 // Latitude and longitude in 180/2^25 degree, height in 6.25 ft.
-#[derive(Drop)]
+#[derive(Clone, Copy)]
 pub struct Multiples {
     pub lat: i32,
     pub lon: i32,
@@ -36,7 +38,7 @@ pub struct Multiples {
 }
 
 // The multiples of ten bytes, or the number of the refusal, which is 23.
-#[derive(Drop)]
+#[derive(Clone, Copy)]
 pub enum Read {
     Three(Multiples),
     Refused(u32),

@@ -1,5 +1,7 @@
 // The best plausible fit of the chosen receptions from their starts: `plausible` and `best_fit` of
 // solve.rs.
+#![tactic(auto)]
+
 mod norm;
 
 ghost use Rattle.std.specs.Prelude.{◌≡◌, not, ◌&&◌, ◌||◌, map, ◌++◌, ℕ, ◌-◌, ◌<◌, ◌≤◌, ltb, leb, take, replicate};
@@ -39,7 +41,7 @@ const MAX_RANGE_SQUARED: f64 = 360_000_000_000.00006103515625;
 const AMBIGUOUS_COST: f64 = 9.0;
 
 // Why receptions have no best fit.
-#[derive(Drop)]
+#[derive(Clone, Copy)]
 pub enum Unfit {
     NoConvergence,
     OutOfRange,
@@ -48,7 +50,7 @@ pub enum Unfit {
 }
 
 // The best fit where one is found, and otherwise why there is none.
-#[derive(Drop)]
+#[derive(Clone, Copy)]
 pub struct Best {
     pub found: bool,
     pub why: Unfit,
@@ -56,7 +58,7 @@ pub struct Best {
 }
 
 // The best fit, its place, and the rounding norm of its rows: zeros where there is none.
-#[derive(Drop)]
+#[derive(Clone, Copy)]
 pub struct BestAt {
     pub best: Best,
     pub place: Geodetic,

@@ -35,6 +35,15 @@ add-clear f (inf false) (inf false) h k = tt
 add-clear f (inf false) (fin false n d) h k = tt
 add-clear f (fin false m e) (inf false) h k = tt
 add-clear f (fin false m e) (fin false n d) h k = round-clear f _ _
+add-clear f nan y h k = elim h [ ]
+add-clear f (inf false) nan h k = elim k [ ]
+add-clear f (inf false) (inf true) h k = elim k [ ]
+add-clear f (inf false) (fin true n d) h k = elim k [ ]
+add-clear f (inf true) y h k = elim h [ ]
+add-clear f (fin false m e) nan h k = elim k [ ]
+add-clear f (fin false m e) (inf true) h k = elim k [ ]
+add-clear f (fin false m e) (fin true n d) h k = elim k [ ]
+add-clear f (fin true m e) y h k = elim h [ ]
 
 -- a square is clear, or that of no number
 pub square-clear : (f : Format) (x : Float) → T (clear (mul f x x)) ⊎ (x ≡ nan)

@@ -166,6 +166,13 @@ add-clear-of (fin true m e) (fin false n d) h k =
     go true = round-clear (b - 0) (down e * down d)
     go false = subst (λ (t : Bool). T (clear (round binary64 t (0 - b) (down e * down d)))) (sym (le-ltb b 0 zero-le))
         (round-clear (0 - b) (down e * down d))
+add-clear-of (inf false) nan h k = elim k [ ]
+add-clear-of (inf false) (inf true) h k = elim k [ ]
+add-clear-of (inf false) (fin true n d) h k = elim k [ ]
+add-clear-of (fin s m e) nan h k = elim k [ ]
+add-clear-of (fin s m e) (inf true) h k = elim k [ ]
+add-clear-of (fin false m e) (fin true n d) h k = elim k [ ]
+add-clear-of (fin true m e) (fin true n d) h k = elim k [ ]
 
 -- ---- a limit that is not passed
 
@@ -237,6 +244,12 @@ less-square (fin s m e) (fin false n d) f g c h = elim (cases (lt nought (fin s 
       absurd (le-lt nought (sub binary64 x w)
       (falls x w (f, tt) (g, tt) (nlt→le binary64 nought x nought-is (f, tt) t) (not-less n d)) h)
 ]
+less-square (inf true) nan f g c h = elim c [ ]
+less-square (inf true) (inf true) f g c h = elim c [ ]
+less-square (inf true) (fin true n d) f g c h = elim c [ ]
+less-square (fin s m e) nan f g c h = elim c [ ]
+less-square (fin s m e) (inf true) f g c h = elim c [ ]
+less-square (fin s m e) (fin true n d) f g c h = elim c [ ]
 
 pub pivot-value : (x y : Float) → T (fits binary64 x) → T (lt nought (sub binary64 x (mul binary64 y y))) → T (lt nought x)
 pivot-value x y f h = elim (square-clear binary64 y) [

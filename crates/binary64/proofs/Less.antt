@@ -62,6 +62,9 @@ module _ (x y z p q r : ℕ) (P : 0 < p) (Q : 0 < q) (R : 0 < r) where
 inf-split : (s u t : Bool) → T (s && not t) → T (s && not u) ⊎ T (u && not t)
 inf-split true true false h = inr tt
 inf-split true false false h = inl tt
+inf-split false u t h = elim h [ ]
+inf-split true false true h = elim h [ ]
+inf-split true true true h = elim h [ ]
 
 -- x < z: any number y is above x or below z
 pub lt-split : (x y z : Float) → T (not (is_nan y)) → T (lt x z) → T (lt x y) ⊎ T (lt y z)

@@ -50,6 +50,9 @@ signs-le (fin true m e) (inf false) p q = tt
 signs-le (fin true m e) (inf true) p q = absurd (true≢false q)
 signs-le (fin true m e) (fin true n d) p q = absurd (true≢false q)
 signs-le (fin true m e) (fin false n d) p q = below-above (m * up e * down d) (n * up d * down e)
+signs-le nan y p q = elim p [ ]
+signs-le (inf true) nan p q = elim q [ ]
+signs-le (fin true m e) nan p q = elim q [ ]
 
 -- ---- `neg` turns the order round, and goes through `round`
 odd-neg : (d : ℕ) (q k l : ℕ) → odd d true q k l ≡ neg (odd d false q k l)

@@ -1,5 +1,7 @@
 // What binary64 needs beyond the language's operators: the square root and rounding that IEEE 754
 // and document 01 name, and the small functions that the solver's parts share.
+#![tactic(auto)]
+
 mod rounding;
 mod square_root;
 

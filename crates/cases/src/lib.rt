@@ -1,5 +1,7 @@
 // Cases on standard input, one after the other: reading them, and counting those that differ. What the programs share
 // that compare recorded cases.
+#![tactic(auto)]
+
 ghost use Rattle.std.specs.Prelude.{◌+◌, ◌<◌, ◌≤◌, cond, ◌≡◌, length, drop};
 ghost use Rattle.io.specs.Counts.{IsPrefixLen};
 
@@ -9,14 +11,14 @@ use libc::STDIN_FILENO;
 pub const MOST: u64 = 1000000;
 
 // Whether a case is as its record has it, and whether it is as a falsified record has it.
-#[derive(Drop)]
+#[derive(Clone, Copy)]
 pub struct Compared {
     pub same: bool,
     pub same_falsified: bool,
 }
 
 // How many cases were compared, with their records and with falsified ones, and how many differ from each.
-#[derive(Drop)]
+#[derive(Clone, Copy)]
 pub struct Tally {
     pub compared: u64,
     pub differ: u64,

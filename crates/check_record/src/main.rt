@@ -1,6 +1,8 @@
 // Prints the number that the reader gives to the record on standard input: 0 where it is taken apart, 16 where it is
 // not 176 bytes long, 18 where it breaks a rule (document 02, item 1). It takes no arguments. An input that cannot be
 // read is said on standard error, and then nothing is printed; so is an output that fails.
+#![tactic(auto)]
+
 use libc::{STDERR_FILENO, STDIN_FILENO, STDOUT_FILENO};
 
 // Whether reading on does not fail; where it does, that is said.

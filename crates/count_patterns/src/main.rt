@@ -2,6 +2,8 @@
 // how many of them leave 0, 1, .. 6 survivors of the screen, and the share that leaves at least four, which a position
 // takes without an altitude. `./patterns` proves, builds and runs it. It takes no arguments; those, and an output that
 // fails, are said on standard error.
+#![tactic(auto)]
+
 mod lines;
 
 ghost use Rattle.std.specs.Prelude.{◌≡◌, ◌^◌, ◌≤◌, length};

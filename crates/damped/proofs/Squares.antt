@@ -65,3 +65,12 @@ grows (fin false m e) (fin false n d) t h k g =
     subst (λ (v : Float). T (le v (round binary64 false (m * up e * down d + n * up d * down e) (down e * down d)))) (sym same)
     (round_mono binary64 a (2 ^ 1074) (m * up e * down d + n * up d * down e) (down e * down d) (pow_pos 1074) (mul-pos (down_pos e) (down_pos d))
     (no_less a (m * up e) (down e) (down d) (2 ^ 1074) (n * up d * down e) j.1))
+grows nan y t h k g = elim h [ ]
+grows (inf false) nan t h k g = elim k [ ]
+grows (inf false) (inf true) t h k g = elim k [ ]
+grows (inf false) (fin true n d) t h k g = elim k [ ]
+grows (inf true) y t h k g = elim h [ ]
+grows (fin false m e) nan t h k g = elim k [ ]
+grows (fin false m e) (inf true) t h k g = elim k [ ]
+grows (fin false m e) (fin true n d) t h k g = elim k [ ]
+grows (fin true m e) y t h k g = elim h [ ]

@@ -1,5 +1,7 @@
 // The damped fit of solve.rs: Levenberg-Marquardt from a start, over the whitened rows of chosen
 // receptions. A step is here, the loop of steps in fitting.rt.
+#![tactic(auto)]
+
 mod fitting;
 
 ghost use Rattle.std.specs.Prelude.{◌≡◌, ◌≤◌};
@@ -31,7 +33,7 @@ const LAMBDA_MAX: f64 = 1e12;
 const DIAGONAL_MIN: f64 = 1e-12;
 
 // The state of a fit: the parameters, the normal equations there, and the damping.
-#[derive(Drop)]
+#[derive(Clone, Copy)]
 pub struct Lm {
     pub params: [f64; 4],
     pub information: [f64; 16],
@@ -42,7 +44,7 @@ pub struct Lm {
 
 // How a step ended: taken, taken and below tolerance, not taken, not taken with lambda past its end,
 // or without a Cholesky factor.
-#[derive(Drop)]
+#[derive(Clone, Copy)]
 pub enum Verdict {
     Accepted,
     Converged,
@@ -51,28 +53,28 @@ pub enum Verdict {
     Failed,
 }
 
-#[derive(Drop)]
+#[derive(Clone, Copy)]
 pub struct Stepped {
     pub state: Lm,
     pub verdict: Verdict,
 }
 
 // What a step gives, and the place of the altitude's row at its parameters.
-#[derive(Drop)]
+#[derive(Clone, Copy)]
 pub struct SteppedAt {
     pub stepped: Stepped,
     pub place: Geodetic,
 }
 
 // A solution of the normal equations, and zeros where the Cholesky fails.
-#[derive(Drop)]
+#[derive(Clone, Copy)]
 struct Solved {
     ok: bool,
     x: [f64; 4],
 }
 
 // A fit where `ok`, which is `Some` in the Rust; `None`, and zeros, where not.
-#[derive(Drop)]
+#[derive(Clone, Copy)]
 pub struct Fit {
     pub ok: bool,
     pub params: [f64; 4],
@@ -82,7 +84,7 @@ pub struct Fit {
 }
 
 // A fit and its place: zeros beside `None`.
-#[derive(Drop)]
+#[derive(Clone, Copy)]
 pub struct Placed {
     pub fit: Fit,
     pub place: Geodetic,

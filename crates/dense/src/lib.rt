@@ -1,5 +1,7 @@
 // The steps of linalg.rs on lent arrays of any length, with the size n beside them: one proof serves
 // the arrays of `Matrix` and `Cholesky` and the short ones of a fit. What lies past the n rows stays.
+#![tactic(auto)]
+
 mod rows;
 mod sandwiched;
 mod triangular;

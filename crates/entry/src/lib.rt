@@ -1,4 +1,6 @@
 // The solve: four inputs to an answer number and a record of 176 bytes.
+#![tactic(auto)]
+
 ghost use Rattle.std.specs.Prelude.{◌≡◌, cond, ℕ, ◌<◌, leb};
 ghost use Rattle.receptions.specs.declared.Reception as reception;
 ghost use Rattle.receptions.specs.Held.{Holds, Filled};
@@ -23,7 +25,7 @@ const RECORD: usize = 176;
 const MOST: usize = 32;
 
 // Document 01's answer number, and the record.
-#[derive(Drop)]
+#[derive(Clone, Copy)]
 pub struct Reply {
     pub number: u32,
     pub bytes: [u8; 176],

@@ -8,7 +8,7 @@ ghost use Rattle.find_fixes.specs.Decimals as decimals;
 const MOST: u64 = 100_000_000_000_000;
 
 // What is read of a decimal: `whole` / `scale`, if it is good. There was a digit where it has `some`.
-#[derive(Drop)]
+#[derive(Clone, Copy)]
 struct Digits {
     good: bool,
     some: bool,
@@ -18,7 +18,7 @@ struct Digits {
 }
 
 // A number that was read, if it is good.
-#[derive(Drop)]
+#[derive(Clone, Copy)]
 pub struct Number {
     pub good: bool,
     pub value: f64,

@@ -9,6 +9,8 @@
 //
 // The file is read block by block, for the language has no heap: each block is whole records, but for the last of a
 // torn file, and what is found in a block is found by `near`.
+#![tactic(auto)]
+
 mod decimals;
 mod lines;
 
@@ -35,7 +37,7 @@ const BLOCK: usize = 45056;
 const UNREAD: u32 = 255;
 
 // The nearest fix so far, its place and how far it is; and why the file is turned away, 0 where it is not.
-#[derive(Drop)]
+#[derive(Clone, Copy)]
 struct Best {
     found: bool,
     place: u64,
@@ -44,14 +46,14 @@ struct Best {
 }
 
 // That, and whether the block was the last.
-#[derive(Drop)]
+#[derive(Clone, Copy)]
 struct Turn {
     last: bool,
     best: Best,
 }
 
 // What is asked for: those within the radius are named, or the nearest is found.
-#[derive(Drop)]
+#[derive(Clone, Copy)]
 struct Query {
     point: Vec3,
     radius: f64,

@@ -5,6 +5,8 @@
 // For clock.bin, altitude.bin and reference.bin that is one byte more than the longest that is taken. Of
 // receptions.bin 4,356 bytes, one reception too many, stand for every longer whole number of receptions,
 // and 4,355 for every torn one.
+#![tactic(auto)]
+
 ghost use Rattle.std.specs.Prelude.{◌≤◌, cond, ◌≡◌, length};
 ghost use Rattle.io.specs.Counts.{IsPrefixLen};
 ghost use Rattle.entry.specs.Cut.{taken, present_bits};
@@ -28,7 +30,7 @@ const ABSENT: i32 = -1;
 const CLOSED: i32 = -2;
 
 // The first n bytes of a file that is there. It is not `read` where it is there and cannot be.
-#[derive(Drop)]
+#[derive(Clone, Copy)]
 pub struct Part {
     pub read: bool,
     pub there: bool,

@@ -1,5 +1,7 @@
 // geo.rs. WGS 84 (NIMA TR8350.2): geodetic latitude, longitude and height above the ellipsoid to
 // and from Earth-centred Earth-fixed metres, and the local east, north, up basis.
+#![tactic(auto)]
+
 mod curvature;
 
 ghost use Rattle.std.specs.Prelude.{◌≡◌, true};
@@ -26,7 +28,7 @@ const RADIANS: f64 = 0.017453292519943295769236907684886;
 const DEGREES: f64 = 57.295779513082320876798154814105;
 
 // A geodetic position: degrees, degrees, metres above the WGS 84 ellipsoid.
-#[derive(Drop)]
+#[derive(Clone, Copy)]
 pub struct Geodetic {
     pub lat_deg: f64,
     pub lon_deg: f64,
@@ -72,7 +74,7 @@ fn height(p: f64, z: f64, sin_lat: f64, cos_lat: f64, n: f64) -> f64
 
 // What a round of Bowring's iteration finds: the height, and the x for which z / x is the tangent
 // of the next latitude.
-#[derive(Drop)]
+#[derive(Clone, Copy)]
 struct Round {
     height: f64,
     x: f64,

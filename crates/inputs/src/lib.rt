@@ -1,4 +1,6 @@
 // The four inputs of a solve: what document 01 turns away of them, and the problem that they hold.
+#![tactic(auto)]
+
 mod domain;
 mod files;
 
@@ -20,7 +22,7 @@ use receptions::Fields;
 // What is wrong with the inputs. A bad field's number is the place of its reception, 100 and the
 // row of its clock entry, or 200 for the altitude; a disorder's is the place of the reception whose
 // identity is not above the one before.
-#[derive(Drop)]
+#[derive(Clone, Copy)]
 pub enum Fault {
     TornInput,
     TooMany,
@@ -30,14 +32,14 @@ pub enum Fault {
     Uncovered,
 }
 
-#[derive(Drop)]
+#[derive(Clone, Copy)]
 pub enum Check {
     Passed,
     Refused(Fault),
 }
 
 // Which of the inputs that may be absent are there. Absent receptions are empty ones.
-#[derive(Drop)]
+#[derive(Clone, Copy)]
 pub struct Given {
     pub clock: bool,
     pub altitude: bool,

@@ -72,7 +72,7 @@ fn series(x: f64) -> f64
 }
 
 // An arc hi + lo whose tangent is known, and the tangent x of the rest.
-#[derive(Drop)]
+#[derive(Clone, Copy)]
 pub struct Arc {
     pub hi: f64,
     pub lo: f64,

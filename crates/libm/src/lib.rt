@@ -6,6 +6,8 @@
 // distributable math library: the same binary64 operations in the same order, so the same bits.
 // Functions, constants and variables have fdlibm's names, and each file says which of fdlibm's it
 // follows.
+#![tactic(auto)]
+
 mod atan;
 mod both;
 mod hypotenuse;

@@ -28,7 +28,7 @@ const PIO2_3T: f64 = 8.47842766036889956997e-32;
 pub const LIMIT: f64 = 7.0;
 
 // An angle less n * pi/2, as y0 + y1: what fdlibm returns and its y[0] and y[1].
-#[derive(Drop)]
+#[derive(Clone, Copy)]
 pub struct Reduced {
     pub n: u64,
     pub y0: f64,
@@ -36,7 +36,7 @@ pub struct Reduced {
 }
 
 // What a stage leaves of the angle, r - w, before it is rounded.
-#[derive(Drop)]
+#[derive(Clone, Copy)]
 pub struct Rest {
     pub r: f64,
     pub w: f64,

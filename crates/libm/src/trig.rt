@@ -75,7 +75,7 @@ pub fn cos(x: f64) -> f64
 }
 
 // The sine and the cosine of one angle.
-#[derive(Drop)]
+#[derive(Clone, Copy)]
 pub struct SinCos {
     pub sin: f64,
     pub cos: f64,

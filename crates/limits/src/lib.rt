@@ -1,5 +1,7 @@
 // Of solve.rs: the limits on a solution's height and on chi-square, the published covariance, and the
 // covariance in the local frame.
+#![tactic(auto)]
+
 mod local;
 
 ghost use Rattle.std.specs.Prelude.{◌≡◌, ◌<◌, ◌≤◌};

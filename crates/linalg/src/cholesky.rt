@@ -6,7 +6,7 @@ ghost use Rattle.dense.specs.Inverse.{inverse};
 ghost use Rattle.dense.specs.Rows.{forward_rows};
 ghost use Rattle.dense.specs.Triangular.{inverse_triangular, inverse_diagonal};
 
-#[derive(Drop)]
+#[derive(Clone, Copy)]
 pub struct Cholesky {
     pub n: usize,
     pub l: [f64; 1024],

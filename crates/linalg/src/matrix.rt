@@ -9,7 +9,7 @@ ghost use Rattle.dense.specs.Sandwich.{sandwich};
 ghost use Rattle.linalg.specs.Methods.{zeros};
 ghost use Rattle.linalg.specs.Held.{matrix};
 
-#[derive(Drop)]
+#[derive(Clone, Copy)]
 pub struct Matrix {
     pub n: usize,
     pub data: [f64; 1024],

@@ -2,6 +2,8 @@
 // linalg.rs on lent slices of any length, and `cholesky`, which gives their factor. Each answers 0, or
 // 21 where a size or width is over 32 or a length does not match: then no number is read, and nothing
 // lent changes.
+#![tactic(auto)]
+
 ghost use Rattle.std.specs.Prelude.{◌≡◌, ◌&&◌, ◌*◌, ◌≤◌, length};
 ghost use Rattle.matrices.specs.Matching.{holds, squares, square_and_column, three_squares, square_and_rows};
 ghost use Rattle.matrices.specs.Calls as calls;

@@ -2,6 +2,8 @@
 // geodesy, claims, solve, states, streams, records, positions, archives, algebra, nearby, displays, planning). Each
 // function takes every value and demands nothing. An array of fixed length that is lent as `&mut` is written whole, or
 // stays as it was where the call is refused.
+#![tactic(auto)]
+
 mod algebra;
 mod archives;
 mod claims;

@@ -7,6 +7,8 @@
 // All or nothing: every record is looked at before the first is written. The first that is turned away is said on
 // standard error with its place, from 0, and its number, and then nothing is written. Otherwise the number of records
 // and the bytes before and after are said there.
+#![tactic(auto)]
+
 ghost use Rattle.std.specs.Prelude.{◌≤◌, ◌≡◌, length};
 ghost use Rattle.move_archive.specs.Moved.{new_of, old_of};
 
@@ -17,7 +19,7 @@ const MOST: u64 = 0xff_ffff_ffff_ffff;
 
 // What became of the next record: there is none, or its number, which is 0 where it is moved. It is not `written` where
 // standard output does not take it.
-#[derive(Drop)]
+#[derive(Clone, Copy)]
 struct Step {
     ended: bool,
     refusal: u32,
@@ -25,7 +27,7 @@ struct Step {
 }
 
 // How many records were moved, and the number of the next one: 0 where there is none.
-#[derive(Drop)]
+#[derive(Clone, Copy)]
 struct Stop {
     records: u64,
     refusal: u32,
@@ -33,20 +35,20 @@ struct Stop {
 }
 
 // How many records were moved. It is not `whole` where the file has more, and why is said.
-#[derive(Drop)]
+#[derive(Clone, Copy)]
 struct Outcome {
     records: u64,
     whole: bool,
 }
 
 // A record in the archive's form, and one in the old form, with the number that it gets: zeros where it is turned away.
-#[derive(Drop)]
+#[derive(Clone, Copy)]
 struct New {
     refusal: u32,
     bytes: [u8; 152],
 }
 
-#[derive(Drop)]
+#[derive(Clone, Copy)]
 struct Old {
     refusal: u32,
     bytes: [u8; 176],

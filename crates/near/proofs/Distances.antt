@@ -48,6 +48,9 @@ root-num (fin false m e) h =
     go : (b : Bool) (r : Float) → Num r → Num (cond b (fin false m e) (cond false nan r))
     go true r n = tt
     go false r n = n
+root-num nan h = elim h [ ]
+root-num (inf true) h = elim h [ ]
+root-num (fin true m e) h = elim h [ ]
 
 -- ---- a square
 

@@ -1,5 +1,7 @@
 // Fixes near a place: document 02, item 12. `within` lists the fixes of a file within a radius of an ECEF point,
 // `nearest` finds the nearest. Both look at the whole file before they write.
+#![tactic(auto)]
+
 mod query;
 
 ghost use Rattle.std.specs.Prelude.{◌≡◌, ◌+◌, ◌*◌, ◌≤◌, length};
@@ -17,7 +19,7 @@ const SIZE: usize = 176;
 const NONE: u64 = 0xffff_ffff_ffff_ffff;
 
 // The nearest fix of some records and its distance. Where none is found, its place is NONE.
-#[derive(Drop)]
+#[derive(Clone, Copy)]
 pub struct Held {
     pub found: bool,
     pub place: u64,

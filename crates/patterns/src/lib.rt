@@ -1,5 +1,7 @@
 // Document 02, item 14: of all patterns of failing pairs that 0 to 6 receptions can have, how many leave each number of
 // survivors. The removals are the screen's own, run on every pattern.
+#![tactic(auto)]
+
 ghost use Rattle.std.specs.Prelude.{◌≡◌, ◌^◌, ◌≤◌, ◌<◌};
 ghost use Rattle.sets.specs.Mask.{has};
 ghost use Rattle.screen.specs.Held.{pairs_of};

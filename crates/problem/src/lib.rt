@@ -1,5 +1,7 @@
 // The problem of a solve, as arrays by field, and its receptions gathered for a fit: `Problem`, `Item`
 // and `minimum` of solve.rs.
+#![tactic(auto)]
+
 ghost use Rattle.std.specs.Prelude.{◌≡◌, ℕ, ◌<◌, ◌≤◌};
 ghost use Rattle.problem.specs.Problem.{site_at, minimum};
 ghost use Rattle.problem.specs.Gathered.{pick, gather_to, put_site, sites_to};
@@ -10,7 +12,7 @@ const MIN_RECEIVERS: u32 = 4;
 const MIN_RECEIVERS_WITH_ALTITUDE: u32 = 3;
 
 // The altitude of the message, metres above the ellipsoid: barometric, GNSS, or none.
-#[derive(Drop)]
+#[derive(Clone, Copy)]
 pub enum Altitude {
     None,
     Barometric(f64),
@@ -21,7 +23,7 @@ pub enum Altitude {
 // light) and noise (square metres) stand at i; the clock covariance of i and j
 // (square metres) at i * n + j. What lies past the n receptions is zero. The solve takes `altitude`, with
 // a station's correction; the record shows `shown`, the altitude as it was given.
-#[derive(Drop)]
+#[derive(Clone, Copy)]
 pub struct Problem {
     pub n: usize,
     pub time: [i64; 32],

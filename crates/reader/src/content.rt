@@ -4,7 +4,7 @@ use record::Fix;
 
 // The answer number, its detail, the receptions considered, the altitude and the fix. In a refusal
 // there is no altitude, and every number of the fix is 0.
-#[derive(Drop)]
+#[derive(Clone, Copy)]
 pub struct Content {
     pub answer: u32,
     pub detail: u32,
@@ -14,7 +14,7 @@ pub struct Content {
 }
 
 // A record taken apart. Where the refusal is not 0, the content means nothing.
-#[derive(Drop)]
+#[derive(Clone, Copy)]
 pub struct Reading {
     pub refusal: u32,
     pub content: Content,

@@ -1,5 +1,7 @@
 // Fix records read back: document 02, item 1. `record_at` hands out the caller's own bytes of a file,
 // `read` takes a record apart, and `write` puts it together again.
+#![tactic(auto)]
+
 mod content;
 mod fields;
 mod rules;

@@ -4,7 +4,7 @@ ghost use Rattle.receptions.specs.Identities as identities;
 
 use crate::ObservationId;
 
-#[derive(Drop)]
+#[derive(Clone, Copy)]
 pub enum Ordering {
     Less,
     Equal,

@@ -1,4 +1,6 @@
 // Receptions, unpacked into arrays by field: those of receptions.bin, and those of a caller's list.
+#![tactic(auto)]
+
 mod identity;
 
 ghost use Rattle.std.specs.Prelude.{◌≡◌, cond, ◌+◌, ◌*◌, ◌^◌, ◌<◌, ◌≤◌, pos, length, set, get_or};
@@ -10,7 +12,7 @@ use identity::ascends;
 
 // `ObservationId` of the source: which message, at which receiver.
 #[repr(C)]
-#[derive(Drop)]
+#[derive(Clone, Copy)]
 pub struct ObservationId {
     pub receiver: [u8; 32],
     pub epoch: u32,
@@ -21,7 +23,7 @@ pub struct ObservationId {
 // A reception as its 132 bytes have it: `Item` of solve.rs, and eight bytes that are to be zero. A
 // caller's list is laid out as C lays it out: 136 bytes a reception, four of them after the epoch.
 #[repr(C)]
-#[derive(Drop)]
+#[derive(Clone, Copy)]
 pub struct Reception {
     pub id: ObservationId,
     pub time: i64,
@@ -34,7 +36,7 @@ pub struct Reception {
 // The receptions by field, the three coordinates of a site one after the other, and zeros past them. Of the
 // identities their order is kept: bit i of `ascending` is set where reception i's is above the one before, and
 // bit 0 where there is a first.
-#[derive(Drop)]
+#[derive(Clone, Copy)]
 pub struct Fields {
     pub ascending: u32,
     pub time: [i64; 32],

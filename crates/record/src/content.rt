@@ -4,7 +4,7 @@ use geo::Geodetic;
 // A fix: the used receptions as a mask, their degrees of freedom, the ECEF position (metres), the
 // transmit time t (metres of light after the reference), the position on WGS 84, the transmit time in
 // picoseconds, the published covariance row by row (square metres), and chi-square.
-#[derive(Drop)]
+#[derive(Clone, Copy)]
 pub struct Fix {
     pub mask: u32,
     pub dof: u32,

@@ -1,5 +1,7 @@
 // The record of 176 bytes that a solve writes: document 01, 'The fix: 176 bytes' and 'When there is no
 // fix'.
+#![tactic(auto)]
+
 mod content;
 
 ghost use Rattle.std.specs.Prelude.{◌≡◌, ◌≤◌, length};

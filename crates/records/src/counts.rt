@@ -6,7 +6,7 @@ use crate::{print, print_number};
 const MINUTE: u64 = 60_000_000_000_000;
 
 // A minute, by its number from 0 or `below` it, and how many fixes were sent in it one after the other.
-#[derive(Drop)]
+#[derive(Clone, Copy)]
 pub(crate) struct Minute {
     pub below: bool,
     pub number: u64,
@@ -14,7 +14,7 @@ pub(crate) struct Minute {
 }
 
 // The first malformed record, if one was found.
-#[derive(Drop)]
+#[derive(Clone, Copy)]
 pub(crate) struct First {
     pub found: bool,
     pub place: u64,

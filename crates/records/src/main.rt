@@ -9,6 +9,8 @@
 // of them that are read back to the bit.
 //
 // A file that ends within a record is said on standard error, with its place, and so is one that cannot be read.
+#![tactic(auto)]
+
 mod counts;
 mod rows;
 
@@ -21,7 +23,7 @@ const MOST: u64 = 0xff_ffff_ffff_ffff;
 
 // The next record: its answer, 18 where it is malformed; of a fix, the time word. There is none where the file `ended`,
 // and where it is `torn` it ended within that record.
-#[derive(Drop)]
+#[derive(Clone, Copy)]
 struct Step {
     ended: bool,
     torn: bool,

@@ -1,5 +1,6 @@
 // Why a call gives nothing: one list for the whole repository, the number and the name of each refusal. Document 01,
 // 'When there is no fix', has 1 to 15, and document 02 16 to 24; 0 is a fix or a call that was answered.
+#![tactic(auto)]
 
 // too few: fewer included than 4 (3 with altitude)
 pub const TOO_FEW: u32 = 1;

@@ -6,6 +6,8 @@
 //
 // Of 641 bytes A5 input k lends the first 176, 177, 639, 640 or 641, and in a call before it none or 175, which is
 // answered by 14. Bytes that are not the record's are to stay A5.
+#![tactic(auto)]
+
 ghost use Rattle.std.specs.Prelude.{◌+◌, ◌<◌, ◌≤◌};
 
 mod list;
@@ -174,7 +176,7 @@ fn listed(
 }
 
 // The comparisons of both calls with one input; of the second where there is one.
-#[derive(Drop)]
+#[derive(Clone, Copy)]
 struct Both {
     bytes: Compared,
     has_list: bool,

@@ -3,6 +3,8 @@
 // many were compared and how many differ, in the number or in any byte of the output; and how many were compared with a
 // falsified answer, and how many of those differ, which is to be all: of move k byte k % 200 of its output is changed,
 // or, past its end, the number.
+#![tactic(auto)]
+
 use cases::{Compared, Tally};
 use libc::STDOUT_FILENO;
 

@@ -3,6 +3,8 @@
 // the result's bits. Sines and cosines are asked of `mlat_sincos` too. Prints how many were compared and how many
 // differ; and how many were compared with a falsified result, and how many of those differ, which is to be all. All
 // not-a-numbers count as one value.
+#![tactic(auto)]
+
 use cases::{Compared, Tally};
 use libc::STDOUT_FILENO;
 

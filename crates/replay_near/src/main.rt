@@ -4,13 +4,15 @@
 // entry of the lent buffer; and how many were compared with a falsified answer, and how many of those differ, which is
 // to be all: of search k byte k % 24 of the count or place and of the entries is changed, or, past their end, the
 // number.
+#![tactic(auto)]
+
 ghost use Rattle.std.specs.Prelude.{◌≤◌};
 
 use cases::{Compared, Tally};
 use libc::STDOUT_FILENO;
 
 // The number of a search, and the count or place that it leaves.
-#[derive(Drop)]
+#[derive(Clone, Copy)]
 struct Answer {
     number: u32,
     out: u64,

@@ -2,6 +2,8 @@
 // other, in the form that RECORDING.md beside this program states. Prints how many were compared and how many differ,
 // in any bit of a result; how many were compared with a falsified result, and how many of those differ, which is to be
 // all: the last bit of the first result is changed; and the library's version. All not-a-numbers count as one value.
+#![tactic(auto)]
+
 ghost use Rattle.std.specs.Prelude.{◌+◌, ◌*◌, ◌≤◌};
 
 use cases::{Compared, Tally};

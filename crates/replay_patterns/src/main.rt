@@ -2,6 +2,8 @@
 // one after the other, in the form that RECORDING.md beside this program states. Prints how many were compared and how
 // many differ, in the number or in any count; and how many were compared with a falsified answer, and how many of those
 // differ, which is to be all: of call k byte k % 60 of what it answers and leaves is changed.
+#![tactic(auto)]
+
 use cases::{Compared, Tally};
 use libc::STDOUT_FILENO;
 

@@ -3,6 +3,8 @@
 // differ, in the number or in any byte that is lent; and how many were compared with a falsified answer, and how
 // many of those differ, which is to be all: of call k byte k % 200 of what it leaves is changed, or, past its end,
 // the number.
+#![tactic(auto)]
+
 ghost use Rattle.std.specs.Prelude.{◌≡◌, length};
 
 use cases::{Compared, Tally};

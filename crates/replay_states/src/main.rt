@@ -6,6 +6,8 @@
 //
 // Of 641 bytes A5 input k lends the first 640 or 641, and in a call before it 0, 175, 176, 177 or 639, which is
 // answered by 14. Bytes that are no state's are to stay A5, as is the detail for 14.
+#![tactic(auto)]
+
 ghost use Rattle.std.specs.Prelude.{◌≤◌};
 
 use cases::{Compared, Tally};

@@ -13,7 +13,7 @@ use record::Fix;
 
 // Why a solve gives no fix, but for no fixed point: 1, 2, 3, 5, 6, 8 and 9 of document 01. Too few says
 // how many are included.
-#[derive(Drop)]
+#[derive(Clone, Copy)]
 pub enum Refusal {
     TooFew(u32),
     NoConvergence,
@@ -24,7 +24,7 @@ pub enum Refusal {
     Uncertain,
 }
 
-#[derive(Drop)]
+#[derive(Clone, Copy)]
 pub enum Case {
     Fix,
     Refused(Refusal),
@@ -32,7 +32,7 @@ pub enum Case {
 }
 
 // A fix, or why there is none, with `nothing` beside it.
-#[derive(Drop)]
+#[derive(Clone, Copy)]
 pub struct Answer {
     pub case: Case,
     pub fix: Fix,

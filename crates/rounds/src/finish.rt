@@ -21,7 +21,7 @@ const MAX_SIGMA_M: f64 = 1_500.0;
 
 // What the steps after the rounds can refuse: document 01's 6 (the whitener), 5, 6 (the information), 9 and 3 are
 // tested in this order, of which the whitener is not refused where the rounds settle.
-#[derive(Drop)]
+#[derive(Clone, Copy)]
 pub enum Unpublished {
     Inconsistent,
     Singular,
@@ -30,7 +30,7 @@ pub enum Unpublished {
 }
 
 // A fix, or why there is none, with `nothing` beside it.
-#[derive(Drop)]
+#[derive(Clone, Copy)]
 pub struct Finished {
     pub published: bool,
     pub why: Unpublished,

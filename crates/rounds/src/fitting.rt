@@ -8,7 +8,7 @@ use best::BestAt;
 use problem::Altitude;
 
 // The included receptions, and the parameters that the round before found if it `had` any.
-#[derive(Drop)]
+#[derive(Clone, Copy)]
 pub struct State {
     pub included: u32,
     pub had: bool,
@@ -16,7 +16,7 @@ pub struct State {
 }
 
 // k receptions by their indices, sites and times.
-#[derive(Drop)]
+#[derive(Clone, Copy)]
 pub struct Gathered {
     pub k: usize,
     pub index: [usize; 32],

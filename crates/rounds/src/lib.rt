@@ -1,4 +1,6 @@
 // The outlier rounds and their answer: `solve_problem` and `finish` of solve.rs.
+#![tactic(auto)]
+
 mod answer;
 mod finish;
 mod fitting;

@@ -17,7 +17,7 @@ const HALF: u64 = 9223372036854775808;
 const LAST: u64 = 18446744073709551615;
 
 // A transmit time, where an i64 holds it.
-#[derive(Drop)]
+#[derive(Clone, Copy)]
 pub struct Moment {
     pub held: bool,
     pub ps: i64,

@@ -23,7 +23,7 @@ use sets::NONE;
 const OUTLIER_Z: f64 = 5.0;
 
 // What a round comes to, beside its fit: a refusal, other receptions included, or neither.
-#[derive(Drop)]
+#[derive(Clone, Copy)]
 pub enum Turn {
     Ends(Refusal),
     Changes(u32),
@@ -83,7 +83,7 @@ fn unnumbered(kept: u32, z: &[f64; 32], n: usize) -> bool
 }
 
 // A chosen reception and its residual: NONE and 0 where there is none.
-#[derive(Drop)]
+#[derive(Clone, Copy)]
 pub struct Choice {
     pub at: usize,
     pub z: f64,
@@ -91,7 +91,7 @@ pub struct Choice {
 
 // Both choices among the receptions looked at: the worst included one above the threshold, and the least
 // left-out one not above it.
-#[derive(Drop)]
+#[derive(Clone, Copy)]
 pub struct Choices {
     pub worst: Choice,
     pub least: Choice,

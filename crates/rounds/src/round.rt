@@ -21,7 +21,7 @@ use geo::Geodetic;
 use problem::Altitude;
 
 // What a round comes to, its best fit, and the fit's place and rounding norm: zeros where it has none.
-#[derive(Drop)]
+#[derive(Clone, Copy)]
 pub struct Step {
     pub turn: Turn,
     pub fit: Fit,

@@ -183,6 +183,7 @@ not-clash times sites n i j a b h =
 
 not-not : (b : Bool) → T (not (not b)) → T b
 not-not true t = tt
+not-not mathlib.Core.Bool.false t = elim t [ ]
 
 pub kept-pass : KeptPass
 unfolding clash

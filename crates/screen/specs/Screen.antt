@@ -1,6 +1,6 @@
 -- The removals of document 01's screen, over any relation of failing pairs, as a computation: "While a pair fails, the
 -- reception in most failing pairs goes, lowest index on ties." Definitions only; Meaning.antt says what they come to.
-use Rattle.std.proofs.Math.Option.{Option, Option·elim}
+use Rattle.std.proofs.Math.Option.{Option, Option-elim}
 use Rattle.std.specs.Prelude.{Bool, ◌&&◌}
 use Prim.Native.Nat.{ℕ, zero, suc}
 use Rattle.std.proofs.Math.Dec.{ltb}
@@ -21,9 +21,9 @@ module _ (n : ℕ) (fails : ℕ → ℕ → Bool) where
 
   -- those still in after k turns, of which each takes the one that goes, if one does
   unfoldable pub alive_to : ℕ → Subset
-  unfolding goes without Option·elim
+  unfolding goes without Option-elim
   alive_to zero = first n
-  alive_to (suc k) = let A = alive_to k in Option·elim (goes A) A (without A)
+  alive_to (suc k) = let A = alive_to k in Option-elim (goes A) A (without A)
 
   -- the receptions that the screen keeps: n turns are enough
   unfoldable pub kept : Subset

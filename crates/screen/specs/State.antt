@@ -3,7 +3,7 @@
 -- still in, after each step, the stored number equals the recount. A removed one holds 0. Survivors are the same as
 -- before." Definitions and statements only: proofs/Stored.antt and proofs/Steps.antt prove each.
 use Rattle.std.specs.Prelude.{◌≡◌, Bool, not, ◌&&◌, T, eqb, ltb}
-use Rattle.std.proofs.Math.Option.{Option, Option·elim}
+use Rattle.std.proofs.Math.Option.{Option, Option-elim}
 use Rattle.std.proofs.Math.Bool.{cond}
 use Prim.Native.Nat.{ℕ, zero, suc, ◌-◌, ◌<◌}
 use Rattle.sets.specs.Sets.{Subset, first, without}
@@ -38,9 +38,9 @@ module _ (n : ℕ) (fails : ℕ → ℕ → Bool) where
 
   -- the state after k steps, of which each removes the one in most failing pairs, if a pair fails
   unfoldable pub held_to : ℕ → Held
-  unfolding start most_clashing removed Option·elim
+  unfolding start most_clashing removed Option-elim
   held_to zero = start
-  held_to (suc k) = let s = held_to k in Option·elim (most_clashing n s.counts) s (removed fails s)
+  held_to (suc k) = let s = held_to k in Option-elim (most_clashing n s.counts) s (removed fails s)
 
   -- the stored numbers are true
   pub record Counted (s : Held) : Type 0 where

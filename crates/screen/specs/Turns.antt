@@ -1,7 +1,7 @@
 -- When the screen removes a reception, and in how many failing pairs it is then. Document 02, item 9: "the turn of its
 -- removal (from 1) and its clash count in that turn". Definitions and statements only: proofs/Turns.antt proves each.
 use Rattle.std.specs.Prelude.{◌≡◌, ◌↔◌, Bool, not, T, eqb}
-use Rattle.std.proofs.Math.Option.{some, Option·elim}
+use Rattle.std.proofs.Math.Option.{some, Option-elim}
 use Rattle.std.proofs.Math.Bool.{false, cond}
 use Prim.Native.Nat.{ℕ, zero, suc, ◌<◌}
 use Rattle.screen.specs.Screen.{clashes, goes, alive_to, kept}
@@ -18,8 +18,8 @@ module _ (n : ℕ) (fails : ℕ → ℕ → Bool) where
 
   -- whether j goes after k turns
   unfoldable pub takes : ℕ → ℕ → Bool
-  unfolding goes alive_to Option·elim
-  takes k j = Option·elim (goes n fails (alive_to n fails k)) false (eqb j)
+  unfolding goes alive_to Option-elim
+  takes k j = Option-elim (goes n fails (alive_to n fails k)) false (eqb j)
 
   -- of the first k turns the one in which j goes, and its clash count then; 0 where it does not
   unfoldable pub turn_to : ℕ → ℕ → ℕ

@@ -1,4 +1,6 @@
 // The feasibility screen: `screen` of solve.rs.
+#![tactic(auto)]
+
 ghost use Rattle.std.specs.Prelude.{◌≡◌, true, cond, ℕ, ◌+◌, ◌-◌, ◌*◌, ◌/◌, ◌^◌, ◌≤◌, ◌<◌, leb, pos, get_or, length};
 ghost use Rattle.binary64.specs.Root.{floor_root};
 ghost use Rattle.sets.specs.Sets.{first};
@@ -124,7 +126,7 @@ pub fn failing(times: &[i64; 32], sites: &[i64; 96], n: usize) -> [u32; 32]
 
 // The state of the removals: the receptions still in, and for each of them the number of failing
 // pairs that it has with others still in. A removed one holds 0.
-#[derive(Drop)]
+#[derive(Clone, Copy)]
 struct State {
     alive: u32,
     counts: [u32; 32],
@@ -196,7 +198,7 @@ fn lessen(rows: &[u32; 32], n: usize, w: usize, counts: &mut [u32; 32])
 
 // What the removals do to n receptions: which are kept, and of each other one the turn of its
 // removal, from 1, and its clash count in that turn. Both are 0 for a kept one.
-#[derive(Drop)]
+#[derive(Clone, Copy)]
 pub struct Outcome {
     pub kept: u32,
     pub turns: [u32; 32],

@@ -11,9 +11,11 @@ use Rattle.sets.proofs.Belonging.{in_without}
 
 bit_in : (b : Bool) → T b → ◌≡◌ {A = ℕ} (cond b 1 0) 1
 bit_in true t = refl
+bit_in false t = elim t [ ]
 
 bit-out : (b : Bool) → T (not b) → ◌≡◌ {A = ℕ} (cond b 1 0) 0
 bit-out false t = refl
+bit-out true t = elim t [ ]
 
 pub bit_le : (b : Bool) → cond b 1 0 ≤ 1
 bit_le true = omega arith

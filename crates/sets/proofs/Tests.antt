@@ -12,9 +12,11 @@ either false = inr tt
 
 pub T→eq : (b : Bool) → T b → b ≡ true
 T→eq true t = refl
+T→eq false t = elim t [ ]
 
 pub F→eq : (b : Bool) → T (not b) → b ≡ false
 F→eq false t = refl
+F→eq true t = elim t [ ]
 
 pub eq→T : {b : Bool} → b ≡ true → T b
 eq→T e = subst T (sym e) tt
@@ -24,15 +26,19 @@ eq→F e = subst (λ (x : Bool). T (not x)) (sym e) tt
 
 pub and_l : (a b : Bool) → T (a && b) → T a
 and_l true b t = tt
+and_l false b t = elim t [ ]
 
 pub and_r : (a b : Bool) → T (a && b) → T b
 and_r true b t = t
+and_r false b t = elim t [ ]
 
 pub and_both : (a b : Bool) → T a → T b → T (a && b)
 and_both true b s t = t
+and_both false b s t = elim s [ ]
 
 pub or_l : (a b : Bool) → T a → T (a || b)
 or_l true b t = tt
+or_l false b t = elim t [ ]
 
 pub or_r : (a b : Bool) → T b → T (a || b)
 or_r true b t = tt

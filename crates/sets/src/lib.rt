@@ -1,4 +1,6 @@
 // Sets of up to 32 receptions as masks: bit i is set where reception i, from 0, is in the set.
+#![tactic(auto)]
+
 ghost use Rattle.std.specs.Prelude.{◌≡◌, ℕ, ◌^◌, ◌≤◌, ◌<◌};
 ghost use Rattle.sets.specs.Sets.{first, joined, without, count, members_to};
 ghost use Rattle.sets.specs.Mask.{has};

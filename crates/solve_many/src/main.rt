@@ -12,6 +12,8 @@
 // A program of the language has no exit status. With --status it writes how it ended to descriptor 3, one digit, from
 // which the scripts ./solve_many and mlat-solve-many make theirs: 0 at the stream's end, 3 within a problem, 4 where
 // the input cannot be read, 5 where the output is not taken.
+#![tactic(auto)]
+
 ghost use Rattle.std.specs.Prelude.{◌≤◌};
 
 use libc::{STDERR_FILENO, STDIN_FILENO, STDOUT_FILENO};
@@ -41,7 +43,7 @@ const GOES_ON: u64 = 9;
 const STATUS_FILENO: i32 = 3;
 
 // What became of the next problem: its answer number, or how the stream ends; and how many of its bytes came.
-#[derive(Drop)]
+#[derive(Clone, Copy)]
 struct Step {
     end: u64,
     number: u32,
@@ -49,7 +51,7 @@ struct Step {
 }
 
 // What was done so far: problems in all, those of them with a fix, those that were refused, and their bytes.
-#[derive(Drop)]
+#[derive(Clone, Copy)]
 struct Done {
     problems: u64,
     fixes: u64,
@@ -58,7 +60,7 @@ struct Done {
 }
 
 // When the first problem was begun and when that was last told, seconds since 1970; on a terminal alone.
-#[derive(Drop)]
+#[derive(Clone, Copy)]
 struct Watch {
     terminal: bool,
     start: u64,

@@ -1,5 +1,7 @@
 // Starting points of a fit: `starts` and `bancroft` of solve.rs. The k receptions of the fit are
 // gathered: the site of the i-th stands in `sites` from 3 * i, and its time in `z` at i.
+#![tactic(auto)]
+
 mod bancroft;
 mod lifted;
 
@@ -17,7 +19,7 @@ use problem::Altitude;
 const START_HEIGHT_M: f64 = 9_000.0;
 
 // At most 18 starts, four floats each: the last round's, the centroid lifted, and the ring of 16.
-#[derive(Drop)]
+#[derive(Clone, Copy)]
 pub struct Points {
     pub n: usize,
     pub at: [f64; 72],

@@ -1,6 +1,8 @@
 // A stream of problems, one after the other, for callers who solve many. A problem is 16 bytes, the lengths of its
 // receptions, clock covariance, altitude and reference, u32 each, little-endian, where 0xFFFFFFFF marks an input that
 // is absent; then the bytes of the inputs that are there, in this order. Absent receptions are empty ones.
+#![tactic(auto)]
+
 ghost use Rattle.std.specs.Prelude.{◌+◌, ◌<◌, ◌≤◌, ◌^◌, ◌≡◌, cond, length};
 ghost use Rattle.stream.specs.Frames as frames;
 ghost use Rattle.stream.specs.Held.{present_of};
@@ -23,7 +25,7 @@ const ALTITUDE: u32 = 17;
 const REFERENCE: u32 = 9;
 
 // The lengths of a problem's inputs, in bytes, or ABSENT.
-#[derive(Drop)]
+#[derive(Clone, Copy)]
 pub struct Head {
     pub receptions: u32,
     pub clock: u32,
@@ -33,7 +35,7 @@ pub struct Head {
 
 // The first problem of a stream: how many bytes it takes and document 01's answer number. It is not `whole` where the
 // stream ends within it, and then it is not solved.
-#[derive(Drop)]
+#[derive(Clone, Copy)]
 pub struct Solved {
     pub whole: bool,
     pub used: usize,

@@ -6,6 +6,8 @@
 //
 // A file that is absent is an absent input. One that is there and cannot be read is said on standard error, as are a
 // folder that cannot be opened and other arguments, and then nothing is written. An output that fails is said there.
+#![tactic(auto)]
+
 use libc::{STDERR_FILENO, STDOUT_FILENO};
 
 fn all(a: bool, b: bool, c: bool) -> bool {

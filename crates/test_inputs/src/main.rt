@@ -5,6 +5,8 @@
 // Prints how many cases were compared and how many differ; and how many were compared with a falsified
 // answer, and how many of those differ, which is to be all: case k has its number, detail or number of
 // receptions changed, in turn.
+#![tactic(auto)]
+
 ghost use Rattle.std.specs.Prelude.{◌*◌, ◌≤◌, length, ◌≡◌};
 ghost use Rattle.receptions.specs.Receptions.{reception_bytes, reception_at, fields_of};
 
@@ -44,7 +46,7 @@ fn unpacked(bytes: &[u8], n: usize) -> Fields
 }
 
 // An answer: number and detail of a refusal and 0, or 0, 0 and the number of receptions of a problem.
-#[derive(Drop)]
+#[derive(Clone, Copy)]
 struct Outcome {
     number: u64,
     detail: u64,

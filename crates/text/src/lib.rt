@@ -1,4 +1,6 @@
 // Text that a program writes, put together piece by piece, so that what is written is the result of a function.
+#![tactic(auto)]
+
 ghost use Rattle.std.specs.Prelude.{◌+◌, ◌≤◌, ◌≡◌, [], ◌++◌, length};
 ghost use Rattle.text.specs.Text.{text_of, Room, decimal};
 
@@ -6,7 +8,7 @@ ghost use Rattle.text.specs.Text.{text_of, Room, decimal};
 pub const ROOM: usize = 512;
 
 // The first n of the bytes.
-#[derive(Drop)]
+#[derive(Clone, Copy)]
 pub struct Text {
     pub bytes: [u8; ROOM],
     pub n: usize,

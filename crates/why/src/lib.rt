@@ -1,4 +1,6 @@
 // Why a receiver is missing from a fix: the state of each reception of a solved problem (document 02, item 9).
+#![tactic(auto)]
+
 ghost use Rattle.std.specs.Prelude.{◌≡◌, ℕ, ◌+◌, ◌*◌, ◌≤◌, ◌<◌, length};
 ghost use Rattle.receptions.specs.declared.Reception as reception;
 ghost use Rattle.receptions.specs.Held.{Holds, Filled};
@@ -27,7 +29,7 @@ const STATES: usize = 640;
 
 // What a reception is to a fix: used, with its normalised residual; removed by the screen, with the turn of its
 // removal, from 1, and its clash count in that turn; or left out, with a residual above 5.
-#[derive(Drop)]
+#[derive(Clone, Copy)]
 pub enum State {
     Used(f64),
     Removed { turn: u32, clashes: u32 },
@@ -35,7 +37,7 @@ pub enum State {
 }
 
 // Document 01's answer number and detail.
-#[derive(Drop)]
+#[derive(Clone, Copy)]
 pub struct Verdict {
     pub number: u32,
     pub detail: u32,

@@ -1,4 +1,6 @@
 // Whole numbers of two 64-bit words: what `screen` and `isqrt` of solve.rs do in i128 and u128.
+#![tactic(auto)]
+
 ghost use Rattle.std.specs.Prelude.{◌≡◌, ◌+◌, ◌-◌, ◌*◌, ◌^◌, ◌<◌, ◌≤◌, pos, ◌+ℤ◌, ◌-ℤ◌, nat_le, unsigned_abs};
 ghost use Rattle.binary64.specs.Root.{floor_root};
 ghost use Rattle.wide.specs.Held.{value_of, wide_of};
@@ -11,7 +13,7 @@ const OFFSET: u64 = 0x8000_0000_0000_0000;
 const WORD: f64 = 18446744073709551616.0;
 
 // The number hi * 2^64 + lo.
-#[derive(Drop)]
+#[derive(Clone, Copy)]
 pub struct Wide {
     pub hi: u64,
     pub lo: u64,

@@ -1,5 +1,7 @@
 // Document 02, item 5: positions as the wire writes them, whole numbers of 10^-7 degree and of
 // millimetres, and back.
+#![tactic(auto)]
+
 ghost use Rattle.std.specs.Prelude.{◌≡◌, Bool, ◌&&◌, ◌*◌, ◌/◌, ◌%◌, ◌^◌, ◌<◌, nat_abs};
 ghost use Rattle.std.specs.Float.{binary64};
 ghost use Rattle.std.specs.Float.Ieee.{of_fields, to_bits};
@@ -25,7 +27,7 @@ const PER_DEGREE: u64 = 10_000_000;
 const PER_METRE: u64 = 1_000;
 
 // Latitude and longitude in 10^-7 degree, height in millimetres.
-#[derive(Drop)]
+#[derive(Clone, Copy)]
 pub struct Wire {
     pub lat: i32,
     pub lon: i32,
@@ -34,14 +36,14 @@ pub struct Wire {
 
 // A position as whole numbers, or the number of the refusal: 16 and 18 are the reader's, 19 is beyond
 // the wire.
-#[derive(Drop)]
+#[derive(Clone, Copy)]
 pub enum Written {
     Whole(Wire),
     Refused(u32),
 }
 
 // A position read back from whole numbers, or the number of the refusal, which is 19.
-#[derive(Drop)]
+#[derive(Clone, Copy)]
 pub enum Placed {
     At(Geodetic),
     Refused(u32),

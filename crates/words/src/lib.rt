@@ -1,5 +1,7 @@
 // Little-endian numbers in lists of bytes, as the files of document 01 hold them: the number that
 // stands from byte k on.
+#![tactic(auto)]
+
 ghost use Rattle.std.specs.Prelude.{◌≡◌, ◌+◌, ◌<◌, ◌≤◌, ◌^◌, length};
 ghost use Rattle.std.specs.Int.{w64};
 ghost use Rattle.std.proofs.Common.{of_z};

@@ -7,6 +7,8 @@
 // said on standard error with its place, from 0, and its number, and then nothing is written. Records that hold no fix
 // or a position beyond the wire are passed over. How many records there are, how many were written and how many were
 // passed over is said there at the end.
+#![tactic(auto)]
+
 ghost use Rattle.std.specs.Prelude.{◌≤◌, ◌≡◌, length};
 ghost use Rattle.write_asterix.specs.Exports.{items_of_wire, items_of};
 
@@ -18,7 +20,7 @@ const MOST: u64 = 0xff_ffff_ffff_ffff;
 
 // What became of the next record: there is none, or its number, which is 0 where it is written and 19 or 23 where it is
 // passed over. It is not `shown` where standard output does not take it.
-#[derive(Drop)]
+#[derive(Clone, Copy)]
 struct Step {
     ended: bool,
     refusal: u32,
@@ -27,7 +29,7 @@ struct Step {
 
 // How many records there were and how many of them were passed over, and the number of the next one: 0 where there is
 // none.
-#[derive(Drop)]
+#[derive(Clone, Copy)]
 struct Stop {
     records: u64,
     passed: u64,
@@ -36,7 +38,7 @@ struct Stop {
 }
 
 // The items of a record, and its number: zeros where that is not 0.
-#[derive(Drop)]
+#[derive(Clone, Copy)]
 struct Items {
     refusal: u32,
     bytes: [u8; 10],

@@ -1,0 +1,51 @@
+-- `asterix::write_asterix` meets its contract: eight bytes, then two, are stored where the test passes (`ten-stored`); nothing else touches the
+-- lent bytes. Assumes nothing.
+use mathlib.Core.Path.{◌≡◌, sym, ap, ◌∙◌}
+use native.Mathlib.Omega.{arith}
+use lib.ListN.{length}
+use mir.Syntax.{w32}
+use mir.Val.{of_z}
+use Rattle.asterix.proofs.Signs.{own_bits}
+use Rattle.asterix.proofs.Arms.{four-length, ten-long, joined, ten-stored, answered, not_written}
+use borrow.Author.Rules.{rules}
+use Rattle.asterix.proofs.write_asterix.Goals as goal
+
+-- the test passed, so there are ten bytes
+long : (c : goal.Then-fitting) → length c.args.out.now ≡ 10
+long c = ten-long _ _ (sym c.fitting.ensures ∙ c.if-fitting.true)
+
+one-long : (c : goal.After-put_four) → length c.put_four.new.0 ≡ 10
+one-long c =
+    ap length c.put_four.ensures ∙ four-length c.args.out.now 0 c.bits.result ∙ long c.before.before.before.before
+
+two-long : (c : goal.After-put_four-then-fitting) → length c.put_four-then-fitting.new.0 ≡ 10
+two-long c =
+    ap length c.put_four-then-fitting.ensures ∙ four-length c.put_four.new.0 4 c.bits-then-fitting.result ∙ one-long c.before.before.before.before.before.before
+
+pub put_four-requires : goal.put_four-requires
+put_four-requires c = let h = long c.before.before.before in omega arith
+
+pub put_four-requires-then-fitting : goal.put_four-requires-then-fitting
+put_four-requires-then-fitting c = let h = one-long c.before.before.before.before.before in omega arith
+
+pub put_two-requires : goal.put_two-requires
+put_two-requires c = let h = two-long c.before.before.before.before.before in omega arith
+
+pub returns-then-fitting : goal.returns-then-fitting
+returns-then-fitting c =
+    let m = c.args.m in
+    let out = c.args.out.now in
+    let fit = c.fitting.ensures in record {
+      answer = answered m out fit c.if-fitting.true;
+      output = joined out (of_z w32 m.lat) (of_z w32 m.lon) (of_z w32 m.height)
+          c.put_four.ensures
+          (own_bits m.lat c.struct_told-1.given.0.1 c.bits.ensures)
+          c.put_four-then-fitting.ensures
+          (own_bits m.lon c.struct_told-then-fitting-1.given.1.0.1 c.bits-then-fitting.ensures)
+          c.put_two.ensures
+          (own_bits m.height c.struct_told-then-fitting-2-1.given.1.1.0.1 c.bits-then-fitting-2.ensures)
+          ∙ ten-stored m out fit c.if-fitting.true;
+    }
+
+pub returns : goal.returns
+returns c = let both = not_written _ _ c.fitting.ensures c.if-fitting.false in record { answer = both.0; output = both.1 }

@@ -1,0 +1,21 @@
+-- `best::converged` meets its contract. The invariant: `so_far` says that one of the first i fits converged. Assumes nothing.
+use borrow.Author.Rules.{rules}
+use mathlib.Core.Path.{◌≡◌, refl, sym, ap, ◌∙◌}
+use Prim.Native.Nat.{◌≤◌, ◌-◌}
+use native.Mathlib.Omega.{arith}
+use lib.Dec.{ltb}
+use lib.ListN.{length, take, length-map}
+use lib.Seq.{length-take-le}
+use Rattle.sets.specs.Sets as sets
+use Rattle.damped.specs.declared.Fit.{Fit}
+use Rattle.damped.specs.declared.Placed.{Placed}
+use Rattle.best.specs.Best.{fit_at}
+use Rattle.best.specs.Held.{fits_of}
+use Rattle.best.proofs.Passes.{fit-front, any_next}
+use Rattle.best.proofs.converged.Given as goal
+
+abbrev pub invariant-loop-i : goal.invariant-loop-i
+invariant-loop-i l = (l.i ≤ l.count) × (l.so_far ≡ ltb 0 (sets.count (λ j. (fit_at (take l.count (fits_of l.fits)) j).ok) l.i))
+
+abbrev pub decreases-loop-i : goal.decreases-loop-i
+decreases-loop-i l = l.count - l.i

@@ -1,0 +1,15 @@
+-- `damped::damped` meets its contract. The invariant: the first i of the diagonal are raised. Assumes nothing.
+use borrow.Author.Rules.{rules}
+use mathlib.Core.Path.{◌≡◌, refl}
+use Prim.Native.Nat.{◌≤◌, ◌-◌}
+use native.Mathlib.Numerals.{add-one}
+use native.Mathlib.Omega.{arith}
+use Rattle.damped.specs.Damped.{damped_to}
+use Rattle.damped.proofs.Constants.{least-bits}
+use Rattle.damped.proofs.damped.Given as goal
+
+abbrev pub invariant-loop-i : goal.invariant-loop-i
+invariant-loop-i l = (l.i ≤ 4) × (l.m ≡ damped_to l.information l.lambda l.i)
+
+abbrev pub decreases-loop-i : goal.decreases-loop-i
+decreases-loop-i l = 4 - l.i

@@ -1,0 +1,22 @@
+-- `damped::fitting::run` meets its contract. The invariant: what is left of the run from this state gives what the whole run gives, the place is the
+-- state's, and the arrays have their room. Each turn and each end is one of the run (`turn`, `ended`). Assumes nothing.
+use borrow.Author.Rules.{rules}
+use mathlib.Core.Path.{◌≡◌, refl, ◌∙◌}
+use mathlib.Core.Logic.{⊎_elim}
+use Prim.Native.Nat.{◌≤◌, ◌-◌}
+use native.Mathlib.Omega.{arith}
+use Rattle.whitening.specs.Held.{Scratch, row_place, chosen}
+use Rattle.damped.specs.declared.Verdict.TheVariants.{Accepted, Converged, Rejected, Stopped, Failed}
+use Rattle.damped.specs.Damped.{run}
+use Rattle.damped.proofs.Turns.{turn, ended}
+use Rattle.damped.proofs.Carried.{fitted-at, plain_at, unfitted-at}
+use Rattle.damped.proofs.fitting.run.Given as goal
+
+abbrev pub invariant-loop-n : goal.invariant-loop-n
+invariant-loop-n l =
+    let P = chosen l.k l.sites l.z l.l l.altitude in
+    (l.n ≤ 50) × (run P (50 - l.n) l.state ≡ run P 50 l.initial.state) × (l.at ≡ row_place l.altitude l.state.params)
+    × Scratch l.r l.squared l.ranges l.a l.b l.c l.d
+
+abbrev pub decreases-loop-n : goal.decreases-loop-n
+decreases-loop-n l = 50 - l.n

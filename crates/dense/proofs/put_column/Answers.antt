@@ -1,0 +1,28 @@
+-- `dense::put_column` meets its contract. The invariant: m holds x in the column's rows below `row`, and keeps its length. The measure is what is
+-- left of n. Assumes nothing.
+use mathlib.Core.Path.{◌≡◌, refl}
+use Prim.Native.Nat.{◌≤◌, ◌-◌}
+use native.Mathlib.Numerals.{add-one}
+use native.Mathlib.Omega.{arith}
+use lib.ListN.{length}
+use Rattle.dense.specs.Inverse.{put_column_to}
+use Rattle.dense.proofs.put_column.Goals as goal
+
+pub loop-row-init : goal.loop-row-init
+unfolding put_column_to
+loop-row-init c = (omega arith, refl, refl)
+
+pub loop-row-preserved : goal.loop-row-preserved
+unfolding put_column_to
+loop-row-preserved c =
+    let loop = c.loop-row in
+    (omega arith, omega arith, rw (add-one loop.row, ← loop.invariant.2, c.put.ensures))
+
+pub shape_of-m : goal.shape_of-m
+shape_of-m c = c.loop-row.invariant.1
+
+pub returns : goal.returns
+returns c =
+    let loop = c.loop-row in
+    let all : loop.row ≡ c.args.n = omega arith in
+    rw all at loop.invariant.2

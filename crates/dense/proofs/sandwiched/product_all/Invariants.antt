@@ -1,0 +1,15 @@
+-- `dense::sandwiched::product_all` meets its contract. The invariant: m holds the rows below i, and keeps its length. The measure
+-- is what is left of n. Assumes nothing.
+use mathlib.Core.Path.{◌≡◌, refl}
+use Prim.Native.Nat.{◌≤◌, ◌-◌}
+use native.Mathlib.Numerals.{add-one}
+use native.Mathlib.Omega.{arith}
+use lib.ListN.{length}
+use Rattle.dense.specs.Sandwich.{product_to}
+use Rattle.dense.proofs.sandwiched.product_all.Given as goal
+
+abbrev pub invariant-loop-i : goal.invariant-loop-i
+invariant-loop-i l = (l.i ≤ l.n) × (length l.m ≡ length l.initial.m) × (l.m ≡ product_to l.a l.b l.n l.initial.m l.i)
+
+abbrev pub decreases-loop-i : goal.decreases-loop-i
+decreases-loop-i l = l.n - l.i

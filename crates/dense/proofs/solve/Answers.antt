@@ -1,0 +1,6 @@
+-- `dense::solve` meets its contract. It is what `backward` ensures of what `forward` ensures. Assumes nothing.
+use borrow.Author.Rules.{rules}
+use Rattle.dense.proofs.solve.Goals as goal
+
+pub returns : goal.returns
+returns c = rw (c.backward.ensures, c.forward.ensures)

@@ -1,0 +1,16 @@
+-- `dense::triangular::mirrored` meets its contract. The invariant: m holds the rows below i and their mirrors, and keeps its
+-- length. The measure is what is left of n. Assumes nothing.
+use mathlib.Core.Path.{◌≡◌, refl}
+use Prim.Native.Nat.{◌≤◌, ◌-◌}
+use native.Mathlib.Numerals.{add-one}
+use native.Mathlib.Omega.{arith}
+use lib.ListN.{length}
+use Rattle.dense.specs.Mirrored.{mirrored_to}
+use Rattle.dense.specs.Triangular.{columns_dot}
+use Rattle.dense.proofs.triangular.mirrored.Given as goal
+
+abbrev pub invariant-loop-i : goal.invariant-loop-i
+invariant-loop-i l = (l.i ≤ l.n) × (length l.m ≡ length l.initial.m) × (l.m ≡ mirrored_to (columns_dot l.inv l.n) l.n l.initial.m l.i)
+
+abbrev pub decreases-loop-i : goal.decreases-loop-i
+decreases-loop-i l = l.n - l.i

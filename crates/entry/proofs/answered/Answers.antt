@@ -1,0 +1,20 @@
+-- `entry::answered` meets its contract: by the cases of the answer (`Replies`). Assumes nothing.
+use borrow.Author.Rules.{rules}
+use Rattle.entry.proofs.Replies.{is-fix, is-unfixed, fix-reply, refusal-reply, unfixed-reply}
+use Rattle.entry.proofs.answered.Goals as goal
+
+pub returns-in-Fix : goal.returns-in-Fix
+returns-in-Fix c = λ a e. fix-reply c.args.n c.args.altitude
+    c.args.answer a e c.fix-bytes.result
+    (is-fix c.args.answer.case c.in-Fix.in-Fix-own.keys1) c.fix-bytes.ensures
+
+pub returns-in-Refused : goal.returns-in-Refused
+returns-in-Refused c =
+    λ a e. refusal-reply c.args.n c.args.altitude c.args.answer a e c.refused.result _ c.number_of.result
+    c.detail_of.result c.in-Refused.is c.number_of.ensures
+    c.detail_of.ensures c.refused.ensures
+
+pub returns-in-NoFixedPoint : goal.returns-in-NoFixedPoint
+returns-in-NoFixedPoint c = λ a e. unfixed-reply c.args.n c.args.altitude
+    c.args.answer a e c.refused-in-NoFixedPoint.result
+    (is-unfixed c.args.answer.case c.in-NoFixedPoint.in-NoFixedPoint-own.keys3) c.refused-in-NoFixedPoint.ensures

@@ -1,0 +1,6 @@
+-- `entry::given` meets its contract: a test for each bit. Assumes nothing.
+use borrow.Author.Rules.{rules}
+use Rattle.entry.proofs.given.Goals as goal
+
+pub returns : goal.returns
+returns c = rw (c.has.ensures, c.has-2.ensures, c.has-3.ensures)

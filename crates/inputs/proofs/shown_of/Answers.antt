@@ -1,0 +1,33 @@
+-- `inputs::shown_of` meets its contract: by whether it is there, and its kind. Assumes nothing.
+use borrow.Author.Rules.{rules}
+use mathlib.Core.Path.{◌≡◌}
+use borrow.Author.Tests.{eq-eqb, ne_eqb}
+use lib.ListN.{length}
+use Rattle.inputs.proofs.Steps.{sized-there}
+use Rattle.inputs.proofs.shown_of.Goals as goal
+
+-- where it is there, it has 16 bytes
+whole : (c : goal.Then-there) → length c.args.altitude.now ≡ 16
+whole c = sized-there 16 c.args.there c.args.altitude.now c.if-there.true c.requires
+
+pub metres_at-metres-requires : goal.metres_at-metres-requires
+metres_at-metres-requires c = whole c
+
+pub kind_at-requires : goal.kind_at-requires
+kind_at-requires c = whole c.before
+
+pub returns-then-kind_at-eq1 : goal.returns-then-kind_at-eq1
+returns-then-kind_at-eq1 c = rw (
+  c.if-there.true,
+  ← c.metres_at-metres.ensures,
+  ← c.kind_at.ensures,
+  eq-eqb _ _ c.if-kind_at-eq1.true,
+)
+
+pub returns-then-there : goal.returns-then-there
+returns-then-there c = rw (
+  c.if-there.true,
+  ← c.metres_at-metres.ensures,
+  ← c.kind_at.ensures,
+  ne_eqb _ _ c.if-kind_at-eq1.false,
+)

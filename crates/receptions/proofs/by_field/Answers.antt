@@ -1,0 +1,36 @@
+-- `receptions::by_field` meets its contract: each turn stores the next reception's fields and its bit (`fields-next`). Assumes nothing.
+use borrow.Author.Rules.{rules}
+use mathlib.Core.Path.{◌≡◌, refl}
+use Prim.Native.Nat.{◌-◌, ◌≤◌}
+use native.Mathlib.Omega.{arith}
+use mir.Syntax.{w64}
+use mir.ValLaws.{to_z-of_z}
+use Rattle.sets.specs.Mask.{mask_of}
+use Rattle.receptions.specs.Receptions.{listed_at, fill_to, fields_of}
+use Rattle.receptions.proofs.Unpacked.{last_of, last-next, bits-lt, fields-next}
+use Rattle.receptions.proofs.by_field.Goals as goal
+
+pub loop-i-init : goal.loop-i-init
+unfolding fields_of fill_to mask_of
+loop-i-init c = (omega arith, (c.blank_id-last.ensures, refl))
+
+pub marked-ascending-requires : goal.marked-ascending-requires
+marked-ascending-requires c =
+    (omega arith, bits-lt (listed_at c.args.t1) c.loop-i.i c.loop-i.invariant.1.1)
+
+pub loop-i-preserved : goal.loop-i-preserved
+loop-i-preserved c =
+    let at = listed_at c.args.t1 in
+    let i = c.loop-i.i in (
+      omega arith,
+      (
+        last-next at i,
+        rw (to_z-of_z w64 (at i).time (record { sfits = c.struct_told-1.given.1.0.1 }), c.put_site.ensures)
+            (fields-next at i c.loop-i.invariant.1.1 refl c.loop-i.invariant.1.0 c.ascends.ensures c.marked-ascending.ensures),
+      ),
+    )
+
+pub returns : goal.returns
+returns c =
+    let e : c.loop-i.i ≡ c.args.n = omega arith in
+    rw e at c.loop-i.invariant.1.1

@@ -1,0 +1,6 @@
+-- `record::put_three` meets its contract: three stores in turn. Assumes nothing.
+use borrow.Author.Rules.{rules}
+use Rattle.record.proofs.put_three.Goals as goal
+
+pub returns : goal.returns
+returns c = rw (c.put_f64-3.ensures, c.put_f64-2.ensures, c.put_f64.ensures)

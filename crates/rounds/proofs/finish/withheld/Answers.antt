@@ -1,0 +1,6 @@
+-- `rounds::finish::withheld` meets its contract: beside the refusal stands no fix. Assumes nothing.
+use Rattle.std.proofs.Common.{rules}
+use Rattle.rounds.proofs.finish.withheld.Goals as goal
+
+pub returns : goal.returns
+returns c = rw c.nothing.ensures

@@ -1,0 +1,38 @@
+-- `rounds::fitting::fit_included` meets its contract. What is gathered, and the starts in their array, are those of the definition (`held-is`).
+-- Assumes nothing.
+use Rattle.std.proofs.Common.{◌∙◌, rules}
+use Rattle.sets.specs.Mask.{has}
+use Rattle.best.specs.OfProblem.{Receptions}
+use Rattle.best.specs.Held.{receptions}
+use Rattle.rounds.proofs.Gathering.{subset-fits}
+use Rattle.rounds.proofs.Points.{starts-few, held-is}
+use Rattle.rounds.proofs.fitting.fit_included.Goals as goal
+
+abbrev heard : goal.Start → Receptions
+heard s = receptions s.args.site.now s.args.z.now s.args.noise.now s.args.clock.now s.args.n s.args.altitude
+
+pub starts-points-requires : goal.starts-points-requires
+starts-points-requires c =
+    (subset-fits c.args.site.now c.args.z.now c.args.n (has c.args.state.included)
+    c.subset-chosen.result c.subset-chosen.ensures c.requires).0
+
+pub best_fit-requires : goal.best_fit-requires
+best_fit-requires c =
+    let S = has c.args.state.included in
+    let g = c.subset-chosen in
+    let fits = subset-fits c.args.site.now c.args.z.now c.args.n S g.result g.ensures c.requires in record {
+      n_bound = (
+        c.requires,
+        fits.0,
+        starts-few (heard c.before.before.before.before.before.before.before.before.before.before.before.before.before) S c.args.state.had c.args.state.previous g.result g.ensures
+            c.starts-points.result c.starts-points.ensures,
+      );
+      by_index = fits.1;
+    }
+
+pub returns : goal.returns
+returns c =
+    let g = c.subset-chosen in
+    c.best_fit.ensures ∙ held-is (heard c.before.before.before.before.before.before.before.before.before.before.before.before.before.before) (has c.args.state.included) c.args.state.had c.args.state.previous g.result
+    g.ensures c.starts-points.result
+    c.starts-points.ensures

@@ -1,0 +1,38 @@
+-- `screen::mark` meets its contract. The invariant: reception i and those below j are compared (`Marked`). A failing pair puts a bit into
+-- the rows of both (`marked-fails`), any other changes nothing (`marked-passes`). Assumes nothing.
+use mathlib.Core.Path.{◌≡◌}
+use mathlib.Core.Logic.{⊎_elim}
+use Prim.Native.Nat.{◌-◌, ◌≤◌}
+use native.Mathlib.Omega.{arith}
+use lib.ListN.{length, length-set}
+use borrow.Author.Rules.{rules}
+use Rattle.screen.proofs.Rows.{Marked, marked_start, marked-passes, marked-fails, marked-end}
+use Rattle.screen.proofs.mark.Goals as goal
+
+pub loop-j-init : goal.loop-j-init
+loop-j-init c = (omega arith, c.requires.i_bound.1, marked_start c.args.times.now c.args.sites.now c.args.rows.now c.args.i c.requires.rows_value)
+
+pub loop-j-preserved : goal.loop-j-preserved
+loop-j-preserved c =
+    let at = c.loop-j in
+    let s = c.args in
+    let tested = c.clash in
+    let fails = marked-fails s.times.now s.sites.now s.i at.j (omega arith) tested.result tested.ensures in
+    let passes = marked-passes s.times.now s.sites.now s.i at.j (omega arith) tested.result tested.ensures in (
+      omega arith,
+      ⊎_elim (λ w. rw (w.5, length-set, length-set) at.invariant.1) (λ w. rw w.1 at.invariant.1) c.if-clash.branch,
+      ⊎_elim
+          (λ w. rw w.5
+          (fails at.rows w.2.result w.4.result (omega arith) w.0.taken w.2.ensures.0 w.4.ensures.0 at.invariant.2))
+          (λ w. rw w.1 (passes at.rows w.0.left at.invariant.2))
+          c.if-clash.branch,
+    )
+
+pub returns : goal.returns
+returns c =
+    let s = c.args in
+    let at = c.loop-j in
+    let e : at.j ≡ s.i = omega arith in record {
+      rows_len = at.invariant.1;
+      rows_after = marked-end s.times.now s.sites.now at.rows s.i (rw e at at.invariant.2);
+    }

@@ -1,0 +1,24 @@
+-- `screen::removals` meets its contract. The invariant: the state is that after `turn` steps (`held_to`), `worst` is the one that its numbers
+-- choose, and what is written down is of these turns (`Recorded`). Assumes nothing.
+use mathlib.Core.Path.{◌≡◌, refl, sym, ap, ◌∙◌}
+use Prim.Native.Nat.{◌-◌, ◌^◌, ◌≤◌, ◌<◌}
+use native.Mathlib.Numerals.{add-one}
+use native.Mathlib.Omega.{arith}
+use lib.ListN.{length, length-set}
+use borrow.Author.Rules.{rules}
+use Rattle.sets.specs.Held.{index_of}
+use Rattle.screen.specs.Held.{pairs_of, numbers_of, held_by}
+use Rattle.screen.specs.State.{most_clashing, held_to}
+use Rattle.screen.proofs.Rows.{zeros}
+use Rattle.screen.proofs.Search.{held-alive, none-goes, leaving}
+use Rattle.screen.proofs.Recorded.{Recorded, recorded-start, recorded-next, recorded-end}
+use Rattle.screen.proofs.removals.Given as goal
+
+abbrev pub invariant-loop-worst : goal.invariant-loop-worst
+invariant-loop-worst l =
+    (l.turn ≤ l.n) × (length l.turns ≡ 32) × (length l.clashes ≡ 32) × (length l.state.counts ≡ 32)
+    × (held_by l.state ≡ held_to l.n (pairs_of l.rows) l.turn) × (l.state.alive < 2 ^ l.n)
+    × (l.worst ≡ index_of (most_clashing l.n (numbers_of l.state.counts))) × Recorded l.n (pairs_of l.rows) l.turn l.turns l.clashes
+
+abbrev pub decreases-loop-worst : goal.decreases-loop-worst
+decreases-loop-worst l = l.n - l.turn

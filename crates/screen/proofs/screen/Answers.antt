@@ -1,0 +1,6 @@
+-- `screen::screen` meets its contract: the rows that the removals take stand for the failing pairs. Assumes nothing.
+use borrow.Author.Rules.{rules}
+use Rattle.screen.proofs.screen.Goals as goal
+
+pub returns : goal.returns
+returns c = rw c.failing-rows.ensures at c.kept.ensures

@@ -1,0 +1,15 @@
+-- `starts::bancroft::products` meets its contract: the invariant: the products of the first i rows are in. Assumes nothing.
+use Rattle.std.proofs.Common.{◌≡◌, ◌-◌, ◌≤◌, refl, add-one, arith, rules}
+use Rattle.starts.specs.Bancroft.{products_to}
+use Rattle.starts.proofs.bancroft.products.Goals as goal
+
+pub loop-i-init : goal.loop-i-init
+unfolding products_to
+loop-i-init c = (search rules, refl)
+
+pub loop-i-preserved : goal.loop-i-preserved
+unfolding products_to
+loop-i-preserved c = (omega arith, rw (add-one, c.plus_products-next.ensures, c.row_at.ensures, c.loop-i.invariant.1))
+
+pub returns : goal.returns
+returns c = let e : c.loop-i.i ≡ c.args.k = omega arith in rw (← e, c.loop-i.invariant.1)

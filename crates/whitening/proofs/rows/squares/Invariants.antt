@@ -1,0 +1,14 @@
+-- `whitening::rows::squares` meets its contract. The invariant: the sum holds the squares below i. The measure is what is left of k. Assumes nothing.
+use borrow.Author.Rules.{rules}
+use mathlib.Core.Path.{◌≡◌, refl}
+use Prim.Native.Nat.{◌≤◌, ◌-◌}
+use native.Mathlib.Numerals.{add-one}
+use native.Mathlib.Omega.{arith}
+use Rattle.whitening.specs.Held.{cost_to}
+use Rattle.whitening.proofs.rows.squares.Given as goal
+
+abbrev pub invariant-loop-i : goal.invariant-loop-i
+invariant-loop-i l = (l.i ≤ l.k) × (l.sum ≡ cost_to l.r l.i)
+
+abbrev pub decreases-loop-i : goal.decreases-loop-i
+decreases-loop-i l = l.k - l.i

@@ -1,0 +1,48 @@
+-- `whitening::slopes::minus_dots4` meets its contract. The invariant: each sum has its first k products taken off. The measure is what is left of i.
+-- Assumes nothing.
+use borrow.Author.Rules.{rules}
+use mathlib.Core.Path.{◌≡◌, refl}
+use Prim.Native.Nat.{◌≤◌, ◌<◌, ◌+◌, ◌*◌, ◌-◌}
+use native.Mathlib.Numerals.{add-one}
+use native.Mathlib.Omega.{arith}
+use Rattle.dense.specs.Entries.{nth, at, minus_dots}
+use Rattle.dense.proofs.Places.{place, room}
+use Rattle.whitening.proofs.slopes.minus_dots4.Goals as goal
+
+-- the entry of a turn lies in the factor
+inside : (c : goal.In-loop-k) → c.args.i * c.args.n + c.loop-k.k < 1024
+inside c =
+    let at = c.args in
+    omega (arith, place at.i c.loop-k.k at.n (omega arith) (omega arith), room at.n (omega arith))
+
+pub overflow_mul-start : goal.overflow_mul-start
+overflow_mul-start c = omega (arith, place c.args.i c.args.i c.args.n (omega arith) (omega arith), room c.args.n (omega arith))
+
+pub loop-k-init : goal.loop-k-init
+unfolding minus_dots
+loop-k-init c = (omega arith, refl, refl, refl, refl)
+
+pub overflow_add-e : goal.overflow_add-e
+overflow_add-e c = omega (arith, inside c)
+
+pub offset_bounds-l-start : goal.offset_bounds-l-start
+offset_bounds-l-start c = omega (arith, inside c)
+
+pub bounds-l-start : goal.bounds-l-start
+bounds-l-start c = omega (arith, inside c)
+
+pub loop-k-preserved : goal.loop-k-preserved
+unfolding minus_dots
+loop-k-preserved c =
+    let v = c.loop-k.invariant in
+    (omega arith, rw (add-one, v.1), rw (add-one, v.2), rw (add-one, v.3), rw (add-one, v.4))
+
+pub returns : goal.returns
+returns c =
+    let v = c.loop-k.invariant in
+    let all : c.loop-k.k ≡ c.args.i = omega arith in record {
+      result_value = rw all at v.1;
+      result_value_2 = rw all at v.2;
+      result_value_3 = rw all at v.3;
+      result_value_4 = rw all at v.4;
+    }
