@@ -12,12 +12,6 @@ use Rattle.dense.proofs.Places.{start, place}
 use Rattle.dense.proofs.Columns.{next, stopped}
 use Rattle.dense.proofs.cholesky.Goals as goal
 
--- what `minus_dots` gives is the pivot
-is-pivot : (c : goal.After-minus_dots-diagonal) →
-    let args = c.args in
-    c.minus_dots-diagonal.result ≡ pivot args.a.now args.n c.loop-j.j c.loop-j.l
-is-pivot c = rw (c.minus_dots-diagonal.ensures, c.at.ensures) (simp mul-one)
-
 pub loop-j-init : goal.loop-j-init
 unfolding cholesky_to
 loop-j-init c = (omega arith, refl, refl)
@@ -41,13 +35,18 @@ shape_of-l-else-diagonal c = c.loop-j.invariant.1
 
 pub returns-else-diagonal : goal.returns-else-diagonal
 returns-else-diagonal c =
-    let below = rw (is-pivot c.before) at c.if-diagonal.false in
+    let args = c.args in
+    let pivot_is : c.minus_dots-diagonal.result ≡ pivot args.a.now args.n c.loop-j.j c.loop-j.l =
+        rw (c.minus_dots-diagonal.ensures, c.at.ensures) (simp mul-one) in
+    let below = rw pivot_is at c.if-diagonal.false in
     sym (stopped _ _ _ _ _ _ (omega arith) c.loop-j.invariant.2 below)
 
 pub loop-j-preserved : goal.loop-j-preserved
 loop-j-preserved c =
-    let above = rw (is-pivot c.before.before.before.before.before.before.before.before.before.before) at
-    c.if-diagonal.true in
+    let args = c.args in
+    let pivot_is : c.minus_dots-diagonal.result ≡ pivot args.a.now args.n c.loop-j.j c.loop-j.l =
+        rw (c.minus_dots-diagonal.ensures, c.at.ensures) (simp mul-one) in
+    let above = rw pivot_is at c.if-diagonal.true in
     let more = next _ _ _ _ _ c.loop-j.invariant.2 above in (
       omega arith,
       omega arith,
@@ -57,7 +56,7 @@ loop-j-preserved c =
         c.column.ensures,
         c.put.ensures,
         c.sqrt-root.ensures,
-        is-pivot c.before.before.before.before.before.before.before.before.before.before,
+        pivot_is,
       ),
     )
 
