@@ -1,13 +1,10 @@
 -- `dense::cholesky` meets its contract. The invariant: l holds the factor's columns below j, none of them refused, and keeps its length. What a pivot
 -- does to it is `next` and `stopped`. The measure is what is left of n. Assumes nothing.
-use borrow.Author.Rules.{rules}
 use mathlib.Core.Path.{◌≡◌, refl, sym}
-use Prim.Native.Nat.{◌≤◌, ◌-◌}
 use native.Mathlib.Nat.{mul-one}
 use native.Mathlib.Numerals.{add-one}
 use native.Mathlib.Omega.{arith}
-use lib.ListN.{length}
-use Rattle.dense.specs.Factor.{found, pivot, cholesky_to}
+use Rattle.dense.specs.Factor.{pivot, cholesky_to}
 use Rattle.dense.proofs.Places.{start, place}
 use Rattle.dense.proofs.Columns.{next, stopped}
 use Rattle.dense.proofs.cholesky.Goals as goal
@@ -37,7 +34,7 @@ pub returns-else-diagonal : goal.returns-else-diagonal
 returns-else-diagonal c =
     let args = c.args in
     let pivot_is : c.minus_dots-diagonal.result ≡ pivot args.a.now args.n c.loop-j.j c.loop-j.l =
-        rw (c.minus_dots-diagonal.ensures, c.at.ensures) (simp mul-one) in
+    rw (c.minus_dots-diagonal.ensures, c.at.ensures) (simp mul-one) in
     let below = rw pivot_is at c.if-diagonal.false in
     sym (stopped _ _ _ _ _ _ (omega arith) c.loop-j.invariant.2 below)
 
@@ -45,7 +42,7 @@ pub loop-j-preserved : goal.loop-j-preserved
 loop-j-preserved c =
     let args = c.args in
     let pivot_is : c.minus_dots-diagonal.result ≡ pivot args.a.now args.n c.loop-j.j c.loop-j.l =
-        rw (c.minus_dots-diagonal.ensures, c.at.ensures) (simp mul-one) in
+    rw (c.minus_dots-diagonal.ensures, c.at.ensures) (simp mul-one) in
     let above = rw pivot_is at c.if-diagonal.true in
     let more = next _ _ _ _ _ c.loop-j.invariant.2 above in (
       omega arith,

@@ -1,11 +1,9 @@
 -- `dense::minus_dots` meets its contract. The invariant: the value is what k products have left of v. The places are those that
 -- the caller shows. The measure is what is left of m. Assumes nothing.
 use mathlib.Core.Path.{◌≡◌, refl}
-use Prim.Native.Nat.{◌≤◌, ◌<◌, ◌+◌, ◌*◌, ◌-◌}
 use native.Mathlib.Numerals.{add-one}
 use native.Mathlib.Omega.{arith}
-use lib.ListN.{length}
-use Rattle.dense.specs.Entries.{nth, minus_dots}
+use Rattle.dense.specs.Entries.{minus_dots}
 use Rattle.dense.proofs.minus_dots.Goals as goal
 
 pub loop-k-init : goal.loop-k-init

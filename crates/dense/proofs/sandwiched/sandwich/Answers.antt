@@ -1,6 +1,5 @@
 -- `dense::sandwiched::sandwich` meets its contract. The half is found in the first n * n of 1024 zeros (`take-zeros`), and the
 -- result from it. Assumes nothing.
-use borrow.Author.Rules.{rules}
 use mathlib.Core.Path.{◌≡◌, sym, ap, ◌∙◌}
 use Prim.Native.Nat.{ℕ, ◌*◌, ◌≤◌}
 use native.Mathlib.Omega.{arith}

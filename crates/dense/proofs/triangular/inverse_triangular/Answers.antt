@@ -1,6 +1,5 @@
 -- `dense::triangular::inverse_triangular` meets its contract. L⁻¹ is found in the first n * n of 1024 zeros (`take-zeros`), and
 -- L⁻ᵀ L⁻¹ from it. Assumes nothing.
-use borrow.Author.Rules.{rules}
 use mathlib.Core.Path.{◌≡◌, sym, ap, ◌∙◌}
 use Prim.Native.Nat.{ℕ, ◌*◌, ◌≤◌}
 use native.Mathlib.Omega.{arith}

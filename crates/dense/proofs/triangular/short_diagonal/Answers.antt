@@ -1,6 +1,5 @@
 -- `dense::triangular::short_diagonal` meets its contract. L⁻¹ is found in the first n * n of 64 zeros (`take-zeros`).
 -- Assumes nothing.
-use borrow.Author.Rules.{rules}
 use mathlib.Core.Path.{◌≡◌, sym, ap, ◌∙◌}
 use Prim.Native.Nat.{ℕ, ◌*◌, ◌≤◌}
 use native.Mathlib.Omega.{arith}
