@@ -14,18 +14,18 @@ use Rattle.whitening.proofs.Costs.{fill-length, fill-at, room-left}
 use Rattle.whitening.proofs.rows.residuals.Goals as goal
 
 pub raw_residuals-requires : goal.raw_residuals-requires
-raw_residuals-requires c = let pre = c.pre in (pre.0, pre.2, pre.3)
+raw_residuals-requires c = (c.requires.0, c.requires.2, c.requires.3)
 
 pub forward-requires : goal.forward-requires
 forward-requires c = (
-  omega (arith, room c.args.k (omega arith), c.before, c),
-  omega (arith, c.before, c),
+  omega (arith, room c.args.k (omega arith)),
+  omega arith,
 )
 
 pub returns : goal.returns
 returns c =
     let at = c.args in
-    let pre = c.pre in
+    let pre = c.requires in
     let raws = (c.raw_residuals.ensures.r_after, (c.raw_residuals.ensures.squared_len, c.raw_residuals.ensures.ranges_after)) in
     let l = at.l.now in
     let f = raw at.sites.now at.z.now at.p 0 in
