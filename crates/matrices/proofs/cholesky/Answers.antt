@@ -1,11 +1,9 @@
 -- `matrices::cholesky` meets its contract. The test holds of matching sizes alone, and the rest is what `factor` ensures.
 -- Assumes nothing.
-use borrow.Author.Rules.{rules}
 use mathlib.Core.Path.{◌≡◌, sym, ap, ◌∙◌}
 use mathlib.Core.Bool.{Bool, true, false, cond}
 use mathlib.Core.List.{List}
 use Prim.Native.Nat.{ℕ, ◌*◌, ◌≤◌}
-use native.Mathlib.Omega.{arith}
 use lib.ListN.{length}
 use lib.Ieee.{Float}
 use Rattle.refusals.specs.Refusals.{wrong_size}
@@ -39,6 +37,6 @@ returns-then-squares c =
 
 pub returns : goal.returns
 returns c = record {
-      answer = gives c.args.n c.args.a.now c.args.out.now false (sym c.squares.ensures ∙ c.if-squares.false);
-      output = leaves c.args.n c.args.a.now c.args.out.now false (sym c.squares.ensures ∙ c.if-squares.false);
-    }
+  answer = gives c.args.n c.args.a.now c.args.out.now false (sym c.squares.ensures ∙ c.if-squares.false);
+  output = leaves c.args.n c.args.a.now c.args.out.now false (sym c.squares.ensures ∙ c.if-squares.false);
+}

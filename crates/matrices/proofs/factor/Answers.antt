@@ -1,6 +1,5 @@
 -- `matrices::factor` meets its contract. The factor is found in the first n * n of 1024 zeros (`take-zeros`), and those are
 -- copied. Assumes nothing.
-use borrow.Author.Rules.{rules}
 use mathlib.Core.Path.{◌≡◌, sym, ap, ◌∙◌}
 use mathlib.Core.Bool.{Bool, true, false}
 use mathlib.Core.List.{List}

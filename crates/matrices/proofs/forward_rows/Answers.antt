@@ -1,6 +1,5 @@
 -- `matrices::forward_rows` meets its contract. The test holds of matching sizes alone, and then out holds q before the rows are
 -- solved. Assumes nothing.
-use borrow.Author.Rules.{rules}
 use mathlib.Core.Path.{◌≡◌, sym, ap, ◌∙◌}
 use mathlib.Core.Bool.{Bool, true, false}
 use mathlib.Core.List.{List}
@@ -50,6 +49,6 @@ returns-then-square_and_rows c =
 
 pub returns : goal.returns
 returns c = record {
-      answer = gives c.args.n c.args.width c.args.l.now c.args.q.now c.args.out.now false (sym c.square_and_rows.ensures ∙ c.if-square_and_rows.false);
-      output = leaves c.args.n c.args.width c.args.l.now c.args.q.now c.args.out.now false (sym c.square_and_rows.ensures ∙ c.if-square_and_rows.false);
-    }
+  answer = gives c.args.n c.args.width c.args.l.now c.args.q.now c.args.out.now false (sym c.square_and_rows.ensures ∙ c.if-square_and_rows.false);
+  output = leaves c.args.n c.args.width c.args.l.now c.args.q.now c.args.out.now false (sym c.square_and_rows.ensures ∙ c.if-square_and_rows.false);
+}

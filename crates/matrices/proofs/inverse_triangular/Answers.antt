@@ -1,6 +1,5 @@
 -- `matrices::inverse_triangular` meets its contract. The test holds of matching sizes alone, and then what stood in out does not
 -- show (`results-overwritten`). Assumes nothing.
-use borrow.Author.Rules.{rules}
 use mathlib.Core.Path.{◌≡◌, sym, ap, ◌∙◌}
 use mathlib.Core.Bool.{Bool, true, false}
 use mathlib.Core.List.{List}
@@ -45,6 +44,6 @@ returns-then-squares c =
 
 pub returns : goal.returns
 returns c = record {
-      answer = gives c.args.n c.args.l.now c.args.out.now false (sym c.squares.ensures ∙ c.if-squares.false);
-      output = leaves c.args.n c.args.l.now c.args.out.now false (sym c.squares.ensures ∙ c.if-squares.false);
-    }
+  answer = gives c.args.n c.args.l.now c.args.out.now false (sym c.squares.ensures ∙ c.if-squares.false);
+  output = leaves c.args.n c.args.l.now c.args.out.now false (sym c.squares.ensures ∙ c.if-squares.false);
+}

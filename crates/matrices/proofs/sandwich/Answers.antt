@@ -1,6 +1,5 @@
 -- `matrices::sandwich` meets its contract. The test holds of matching sizes alone, and then what stood in out does not show
 -- (`results-overwritten`). Assumes nothing.
-use borrow.Author.Rules.{rules}
 use mathlib.Core.Path.{◌≡◌, sym, ap, ◌∙◌}
 use mathlib.Core.Bool.{Bool, true, false}
 use mathlib.Core.List.{List}
@@ -46,6 +45,6 @@ returns-then-three_squares c =
 
 pub returns : goal.returns
 returns c = record {
-      answer = gives c.args.n c.args.a.now c.args.inner.now c.args.out.now false (sym c.three_squares.ensures ∙ c.if-three_squares.false);
-      output = leaves c.args.n c.args.a.now c.args.inner.now c.args.out.now false (sym c.three_squares.ensures ∙ c.if-three_squares.false);
-    }
+  answer = gives c.args.n c.args.a.now c.args.inner.now c.args.out.now false (sym c.three_squares.ensures ∙ c.if-three_squares.false);
+  output = leaves c.args.n c.args.a.now c.args.inner.now c.args.out.now false (sym c.three_squares.ensures ∙ c.if-three_squares.false);
+}

@@ -32,13 +32,13 @@ bounds-l-i c = omega (arith, inside c.loop-i.i c.args.n (omega arith) (omega ari
 pub loop-i-preserved : goal.loop-i-preserved
 loop-i-preserved c =
     let v = c.loop-i.invariant in
-    let w = (c.minus_dots4-w.ensures.result_value, (c.minus_dots4-w.ensures.result_value_2, (c.minus_dots4-w.ensures.result_value_3, c.minus_dots4-w.ensures.result_value_4))) in
-    let put = (c.put_slopes.ensures.a_after, (c.put_slopes.ensures.b_after, (c.put_slopes.ensures.c_after, c.put_slopes.ensures.d_after))) in (
+    let w = c.minus_dots4-w.ensures in
+    let put = c.put_slopes.ensures in (
       omega arith,
-      put.0 ∙ forward-row _ _ _ _ _ _ v.1 w.0,
-      put.1.0 ∙ forward-row _ _ _ _ _ _ v.2 w.1.0,
-      put.1.1.0 ∙ forward-row _ _ _ _ _ _ v.3 w.1.1.0,
-      put.1.1.1 ∙ forward-row _ _ _ _ _ _ v.4 w.1.1.1,
+      put.a_after ∙ forward-row _ _ _ _ _ _ v.1 w.result_value,
+      put.b_after ∙ forward-row _ _ _ _ _ _ v.2 w.result_value_2,
+      put.c_after ∙ forward-row _ _ _ _ _ _ v.3 w.result_value_3,
+      put.d_after ∙ forward-row _ _ _ _ _ _ v.4 w.result_value_4,
     )
 
 pub returns : goal.returns
