@@ -26,7 +26,8 @@ returns-then-found c = record {
 
 pub returns : goal.returns
 unfolding step
-returns c = let both = (
-  rw (← c.damped-m.ensures, ← c.descent-found.ensures, c.if-found.false),
-  let pre = (c.requires.k_bound, c.requires.scratch) in (pre.0.1, pre.1),
-) in record { stepped_value = both.0; place_value = both.1.0; scratch_2 = both.1.1 }
+returns c = record {
+      stepped_value = rw (← c.damped-m.ensures, ← c.descent-found.ensures, c.if-found.false);
+      place_value = c.requires.k_bound.1;
+      scratch_2 = c.requires.scratch;
+    }
