@@ -1,7 +1,6 @@
 -- `damped::tried` meets its contract. Where the receptions alone cost more than the state, so do all rows (`above`); elsewhere the cost is the
 -- definition's (`cost-joined`), and so are the equations. The place is the candidate's where it is taken, and the state's where not (`moves`,
 -- `stays`). The arrays keep their room (`height-room`). Assumes nothing.
-use borrow.Author.Rules.{rules}
 use native.Mathlib.Omega.{arith}
 use Rattle.whitening.specs.Held.{chosen}
 use Rattle.whitening.proofs.Joined.{residuals-joined, cost-joined, completes}
