@@ -7,8 +7,6 @@ use Rattle.rounds.proofs.solve_problem.Goals as goal
 
 pub returns : goal.returns
 returns c =
-    let p = c.args.t1 in
+    let p = c.args.p in
     c.solve_lent.ensures
-    ∙ ap as_answer (of-problem p _ (to_z w64 (of_z w64 p.reference_ps)) refl (to_z-of_z w64 p.reference_ps (record {
-      sfits = c.struct_told-1.given.1.1.1.1.1.1.1.1.0.1;
-    })))
+    ∙ ap as_answer (of-problem p _ (to_z w64 (of_z w64 p.reference_ps)) refl ?)

@@ -8,7 +8,7 @@ use Rattle.why.proofs.explained.Goals as goal
 
 pub returns-in-Fix : goal.returns-in-Fix
 returns-in-Fix c =
-    let is = is-fix c.args.answer.case c.in-Fix.in-Fix-own.keys1 in record {
+    let is = c.in-Fix.is in record {
       verdict = λ a e. verdict-told c.args.answer a e case.Fix is;
       states = λ a e. c.tell.ensures ∙ states-told c.args.answer a e c.args.p c.args.out.now case.Fix is;
     }
@@ -24,7 +24,7 @@ returns-in-Refused c =
 
 pub returns-in-NoFixedPoint : goal.returns-in-NoFixedPoint
 returns-in-NoFixedPoint c =
-    let is = is-unfixed c.args.answer.case c.in-NoFixedPoint.in-NoFixedPoint-own.keys3 in record {
+    let is = c.in-NoFixedPoint.is in record {
       verdict = λ a e. verdict-told c.args.answer a e case.NoFixedPoint is;
       states = λ a e. states-told c.args.answer a e c.args.p c.args.out.now case.NoFixedPoint is;
     }
