@@ -67,8 +67,11 @@ module _ (P : Problem) (N : P.n ≤ 32) where
   pub too-few : (c : ℕ) → solve_problem P ≡ refused (TooFew c) → c ≤ 3
   too-few c e = go (TooFew c) (((demand-met P N).claim.refusals (TooFew c)).0 e) refl
     where
+      ended : (S : Subset) (p : Option (List Float)) (r : Refusal) → Ends (rounds P) S p r → TooFew c ≡ r → c ≤ 3
+      ended S p r (few h) q = let z : c ≡ count S P.n = same_count c (count S P.n) q in omega (arith, minimum-le P.altitude)
+      ended S p r (demand.unfit u m b) q = absurd (no-unfit c u q)
+      ended S p r (unnumbered f j m b l k n) q = absurd (let z : ◌≡◌ {A = ℕ} 0 1 = cc in omega arith)
+
       go : (r : Refusal) → Refused (rounds P) (remaining P) r → TooFew c ≡ r → c ≤ 3
-      go r (early S p d t (few h)) q = let z : c ≡ count S P.n = same_count c (count S P.n) q in omega (arith, minimum-le P.altitude)
-      go r (early S p d t (demand.unfit u m b)) q = absurd (no-unfit c u q)
-      go r (early S p d t (unnumbered f j m b l k n)) q = absurd (let z : ◌≡◌ {A = ℕ} 0 1 = cc in omega arith)
+      go r (early S p d t h) q = ended S p d h q
       go r (late S p f u t s l) q = absurd (no-unpublished c u q)
