@@ -1,7 +1,9 @@
 -- What every answer shows: a mask within n and the degrees of freedom that it stands for, and too few that are too few. Assumes
 -- nothing.
-use Rattle.std.proofs.Common.{◌≡◌, ℕ, ◌+◌, ◌^◌, ◌<◌, ◌≤◌, cond, sym, refl, ap, ◌∙◌, subst, arith}
-use Rattle.sets.specs.Sets.{count}
+use Rattle.std.proofs.Common.{◌≡◌, ℕ, ◌+◌, ◌^◌, ◌<◌, ◌≤◌, cond, List, sym, refl, ap, ◌∙◌, subst, arith}
+use mathlib.Core.Option.{Option}
+use lib.Ieee.{Float}
+use Rattle.sets.specs.Sets.{Subset, count}
 use Rattle.sets.specs.Mask.{has}
 use Rattle.sets.proofs.Masks.{mask_lt, count-within}
 use Rattle.problem.specs.declared.Altitude.{Altitude}
@@ -18,7 +20,7 @@ use Rattle.rounds.specs.declared.finish.Unpublished.{Unpublished}
 use Rattle.rounds.specs.declared.finish.Unpublished.TheVariants as unpublished
 use Rattle.rounds.specs.Setting.{fix, refused, of_unfit, of_unpublished}
 use Rattle.rounds.specs.Solve.{has_altitude, solve_problem}
-use Rattle.rounds.specs.Demand.{Fixed, Refused, early, late, few, unnumbered, Found, rounds, remaining}
+use Rattle.rounds.specs.Demand.{Fixed, Ends, Refused, early, late, few, unnumbered, Found, rounds, remaining}
 use Rattle.rounds.specs.Demand as demand
 use Rattle.rounds.proofs.Found.{demand-met}
 

@@ -12,13 +12,13 @@ use Rattle.entry.proofs.solve_fields.Goals as goal
 pub returns-then-out-lt-RECORD : goal.returns-then-out-lt-RECORD
 returns-then-out-lt-RECORD c = λ at held.
     let lent : (ℕ → Reception) → Inputs =
-        λ at. inputs_of c.args.whole c.args.n at (given c.args.present) c.args.clock.now c.args.altitude.now c.args.reference.now in
+    λ at. inputs_of c.args.whole c.args.n at (given c.args.present) c.args.clock.now c.args.altitude.now c.args.reference.now in
     short-promise (lent at) c.args.out.now c.if-out-lt-RECORD.true
 
 pub returns : goal.returns
 returns c = λ at held.
     let lent : (ℕ → Reception) → Inputs =
-        λ at. inputs_of c.args.whole c.args.n at (given c.args.present) c.args.clock.now c.args.altitude.now c.args.reference.now in
+    λ at. inputs_of c.args.whole c.args.n at (given c.args.present) c.args.clock.now c.args.altitude.now c.args.reference.now in
     let reply = c.reply_to-r in
     let store = c.store in
     let sized : length reply.result.bytes ≡ 176 = search rules in

@@ -13,12 +13,11 @@ use Rattle.rounds.proofs.outlier_rounds.Goals as goal
 
 pub loop-k-init : goal.loop-k-init
 loop-k-init c =
-    let R = receptions c.args.site.now c.args.z.now c.args.noise.now c.args.clock.now c.args.n c.args.altitude in
-    (
-  omega arith,
-  subst (λ (s : State). s.included < 2 ^ c.args.n) (sym c.first-state.ensures) c.requires.1,
-  λ ref l. left-start R c.args.kept ref l c.first-state.result c.args.cap c.first-state.ensures,
-)
+    let R = receptions c.args.site.now c.args.z.now c.args.noise.now c.args.clock.now c.args.n c.args.altitude in (
+      omega arith,
+      subst (λ (s : State). s.included < 2 ^ c.args.n) (sym c.first-state.ensures) c.requires.1,
+      λ ref l. left-start R c.args.kept ref l c.first-state.result c.args.cap c.first-state.ensures,
+    )
 
 pub round-step-requires : goal.round-step-requires
 round-step-requires c = (c.requires.0, c.loop-k.invariant.1)

@@ -9,7 +9,7 @@ use Rattle.inputs.specs.declared.Check.TheVariants.{Passed}
 use Rattle.inputs.specs.Inputs.{Inputs, inputs_of, check_inputs, problem_of}
 use Rattle.inputs.proofs.Order.{few}
 use Rattle.rounds.specs.Solve.{solve_problem}
-use Rattle.entry.proofs.Replies.{is-passed, came-whole, torn-or-whole}
+use Rattle.entry.proofs.Replies.{came-whole, torn-or-whole}
 use Rattle.why.specs.Why.{verdict, states}
 use Rattle.why.proofs.Verdicts.{away-verdict, away-states, passed-verdict, passed-states}
 use Rattle.why.proofs.asked.Goals as goal
@@ -17,7 +17,7 @@ use Rattle.why.proofs.asked.Goals as goal
 pub problem_of-p-requires : goal.problem_of-p-requires
 problem_of-p-requires c =
     let lent : (ℕ → Reception) → Given → Inputs =
-        λ at g. inputs_of c.args.whole c.args.n at g c.args.clock.now c.args.altitude.now c.args.reference.now in
+    λ at g. inputs_of c.args.whole c.args.n at g c.args.clock.now c.args.altitude.now c.args.reference.now in
     let some = c.requires.0 in
     let I = lent some.0 c.given-g.result in
     let check = c.check_inputs-found in
@@ -27,7 +27,7 @@ problem_of-p-requires c =
 pub solve_problem-answer-requires : goal.solve_problem-answer-requires
 solve_problem-answer-requires c =
     let lent : (ℕ → Reception) → Given → Inputs =
-        λ at g. inputs_of c.args.whole c.args.n at g c.args.clock.now c.args.altitude.now c.args.reference.now in
+    λ at g. inputs_of c.args.whole c.args.n at g c.args.clock.now c.args.altitude.now c.args.reference.now in
     let some = c.requires.0 in
     let I = lent some.0 c.given-g.result in
     let check = c.check_inputs-found in
@@ -37,7 +37,7 @@ solve_problem-answer-requires c =
 pub explained-requires : goal.explained-requires
 explained-requires c =
     let lent : (ℕ → Reception) → Given → Inputs =
-        λ at g. inputs_of c.args.whole c.args.n at g c.args.clock.now c.args.altitude.now c.args.reference.now in
+    λ at g. inputs_of c.args.whole c.args.n at g c.args.clock.now c.args.altitude.now c.args.reference.now in
     let some = c.requires.0 in
     let I = lent some.0 c.given-g.result in
     let check = c.check_inputs-found in
@@ -47,7 +47,7 @@ explained-requires c =
 pub returns-in-Refused : goal.returns-in-Refused
 returns-in-Refused c =
     let lent : (ℕ → Reception) → Given → Inputs =
-        λ at g. inputs_of c.args.whole c.args.n at g c.args.clock.now c.args.altitude.now c.args.reference.now in
+    λ at g. inputs_of c.args.whole c.args.n at g c.args.clock.now c.args.altitude.now c.args.reference.now in
     let check = c.check_inputs-found in
     let fault = c.in-Refused.is in
     let number = c.number_of in
@@ -64,20 +64,19 @@ returns-in-Refused c =
 pub returns-in-Passed : goal.returns-in-Passed
 returns-in-Passed c =
     let lent : (ℕ → Reception) → Given → Inputs =
-        λ at g. inputs_of c.args.whole c.args.n at g c.args.clock.now c.args.altitude.now c.args.reference.now in
+    λ at g. inputs_of c.args.whole c.args.n at g c.args.clock.now c.args.altitude.now c.args.reference.now in
     let check = c.check_inputs-found in
     let p = c.problem_of-p in
     let passes = c.in-Passed.is in
-    let told = (c.explained.ensures.verdict, c.explained.ensures.states) in
     let solved = c.solve_problem-answer.ensures in
     let I : (ℕ → Reception) → Inputs = λ (at : ℕ → Reception). lent at c.given-g.result in
     let is : (at : ℕ → Reception) → Holds c.args.f c.args.n at → p.result ≡ problem_of (I at) =
     λ at held. (p.ensures at (held (few (I at) (sym (check.ensures at held) ∙ passes)))).problem ∙ torn-or-whole (I at) in record {
       verdict = λ at held.
-          passed-verdict (I at) check.result (check.ensures at held) p.result passes (is at held) _ (told.0 (solve_problem p.result) solved)
+          passed-verdict (I at) check.result (check.ensures at held) p.result passes (is at held) _ (c.explained.ensures.verdict (solve_problem p.result) solved)
           ∙ ap (λ (g : Given). verdict (lent at g)) c.given-g.ensures;
       states = λ at held.
           passed-states (I at) check.result (check.ensures at held) p.result passes (is at held) c.args.out.now _
-          (told.1 (solve_problem p.result) solved)
+          (c.explained.ensures.states (solve_problem p.result) solved)
           ∙ ap (λ (g : Given). states (lent at g) c.args.out.now) c.given-g.ensures;
     }

@@ -2,7 +2,6 @@
 use borrow.Author.Rules.{rules}
 use mathlib.Core.Path.{◌∙◌}
 use Rattle.rounds.specs.declared.answer.Case.TheVariants as case
-use Rattle.entry.proofs.Replies.{is-fix, is-unfixed}
 use Rattle.why.proofs.Verdicts.{verdict-told, states-told, refusal-told}
 use Rattle.why.proofs.explained.Goals as goal
 

@@ -8,8 +8,8 @@ use Rattle.rounds.proofs.moment.earlier.Goals as goal
 pub returns-then-ps-place : goal.returns-then-ps-place
 returns-then-ps-place c =
     let e : pos c.abs_diff-place.result ≡ c.args.reference +ℤ pos (2 ^ 63) =
-        ap pos (rw (to_z-of_z w64 c.args.reference c.ranges.reference) at c.abs_diff-place.ensures)
-        ∙ place_of c.args.reference c.ranges.reference.sfits in
+    ap pos (rw (to_z-of_z w64 c.args.reference c.ranges.reference) at c.abs_diff-place.ensures)
+    ∙ place_of c.args.reference c.ranges.reference.sfits in
     rw (c.at.ensures, read-place (c.abs_diff-place.result - c.args.ps) (omega arith))
     (earlier-held c.args.reference c.abs_diff-place.result e
     c.args.ps c.if-ps-place.true (omega arith))
@@ -17,7 +17,7 @@ returns-then-ps-place c =
 pub returns : goal.returns
 returns c =
     let e : pos c.abs_diff-place.result ≡ c.args.reference +ℤ pos (2 ^ 63) =
-        ap pos (rw (to_z-of_z w64 c.args.reference c.ranges.reference) at c.abs_diff-place.ensures)
-        ∙ place_of c.args.reference c.ranges.reference.sfits in
+    ap pos (rw (to_z-of_z w64 c.args.reference c.ranges.reference) at c.abs_diff-place.ensures)
+    ∙ place_of c.args.reference c.ranges.reference.sfits in
     rw c.beyond.ensures (earlier-beyond c.args.reference c.abs_diff-place.result
     e c.args.ps c.if-ps-place.false)

@@ -15,9 +15,9 @@ returns-then-ps c = by-cast c.args.reference (pos 0) c.args.t c.round-ps.result
 pub truncating_f64_to_u64-requires : goal.truncating_f64_to_u64-requires
 unfolding of_bits neg
 truncating_f64_to_u64-requires c = record {
-      lower_bound = subst T (sym c.if-ps-2.true) tt;
-      upper_bound = subst T (sym c.if-ps-3.true) tt;
-    }
+  lower_bound = subst T (sym c.if-ps-2.true) tt;
+  upper_bound = subst T (sym c.if-ps-3.true) tt;
+}
 
 pub returns-then-ps-3 : goal.returns-then-ps-3
 unfolding of_bits neg
@@ -39,9 +39,9 @@ returns-then-ps-2 c =
 pub truncating_f64_to_u64-requires-then-back : goal.truncating_f64_to_u64-requires-then-back
 unfolding of_bits neg
 truncating_f64_to_u64-requires-then-back c = record {
-      lower_bound = turned _ c.if-ps.false c.if-ps-2.false;
-      upper_bound = subst T (sym c.if-back.true) tt;
-    }
+  lower_bound = turned _ c.if-ps.false c.if-ps-2.false;
+  upper_bound = subst T (sym c.if-back.true) tt;
+}
 
 pub returns-then-back : goal.returns-then-back
 unfolding of_bits neg
