@@ -1,11 +1,11 @@
 -- The ends of the two moves. Assumes nothing.
 use Prim.Native.Nat.{ℕ, ◌<◌, ◌≤◌}
 use mathlib.Core.Path.{◌≡◌, sym, ap, ◌∙◌}
-use mathlib.Core.Bool.{Bool, true, false, not, cond}
+use mathlib.Core.Bool.{Bool, true, false, cond}
 use mathlib.Core.List.{List, ◌++◌}
 use lib.Dec.{eqb}
 use lib.ListN.{length, drop}
-use borrow.Author.Tests.{eq-eqb, ne_eqb, lt-ltb, le-ltb, not-true, not-false}
+use borrow.Author.Tests.{eq-eqb, ne_eqb, lt-ltb, le-ltb}
 use Rattle.record.specs.Record.{stored}
 use Rattle.reader.specs.Read.{read_of}
 use Rattle.archive.specs.Forms.{bits, new_form, old_form}
@@ -16,12 +16,6 @@ use Rattle.archive.specs.Moves.{equal_mirror, old_refusal, new_refusal, to_archi
 -- the outcome of a comparison, by what was compared
 pub compared : {x y p q : ℕ} {r b : Bool} → r ≡ eqb x y → x ≡ p → y ≡ q → r ≡ b → eqb p q ≡ b
 compared t e f h = rw (sym e, sym f, sym t) h
-
-pub equal : {x y p q : ℕ} {r : Bool} → r ≡ eqb x y → x ≡ p → y ≡ q → not r ≡ false → eqb p q ≡ true
-equal t e f h = compared t e f (not-false _ h)
-
-pub unequal : {x y p q : ℕ} {r : Bool} → r ≡ eqb x y → x ≡ p → y ≡ q → not r ≡ true → eqb p q ≡ false
-unequal t e f h = compared t e f (not-true _ h)
 
 module _ (s : List ℕ) where
   pub first-unequal : eqb (bits s 0 1) (bits s 1 0) ≡ false → false ≡ equal_mirror s

@@ -1,6 +1,6 @@
 -- What a finite result, or one within a limit, tells of the values that it was made of. Assumes nothing.
 use mathlib.Core.Path.{◌≡◌, refl, sym, ap, subst, ◌∙◌}
-use mathlib.Core.Bool.{Bool, true, false, not, cond, ◌&&◌, ◌||◌, beq}
+use mathlib.Core.Bool.{Bool, true, false, not, cond, ◌&&◌, beq}
 use mathlib.Core.Logic.{inl, inr}
 use Prim.Native.Nat.{ℕ, zero, suc, ◌+◌, ◌-◌, ◌*◌, ◌/◌, ◌^◌, ◌≤◌, zero-le, compare}
 use native.Mathlib.Nat.{le_trans, le_of_eq, zero-mul, mul-one}

@@ -1,7 +1,7 @@
 -- Two mirrored places that a value was stored in keep it, since what is stored later lies elsewhere: so the inverse and the
 -- results that are mirrored by construction are symmetric to the bit, `inverse_diagonal` has the diagonal of
 -- `inverse_triangular`, and what stood in a result's array before does not show. Assumes nothing.
-use mathlib.Core.Path.{◌≡◌, refl, sym, ap, subst, ◌∙◌}
+use mathlib.Core.Path.{◌≡◌, refl, sym, subst, ◌∙◌}
 use mathlib.Core.List.{List, [], ◌∷◌}
 use mathlib.Core.Logic.{◌≢◌, ◌⊎◌, inl, inr}
 use Prim.Native.Nat.{ℕ, zero, suc, ◌+◌, ◌*◌, ◌-◌, ◌/◌, ◌%◌, ◌≤◌, ◌<◌}

@@ -18,6 +18,7 @@ pub use sandwiched::sandwich;
 pub use triangular::{inverse_diagonal, inverse_triangular};
 
 // The entry of a row and a column.
+#[tactic(auto, using(crate::proofs::Places::place))]
 pub fn at(m: &[f64], n: usize, row: usize, column: usize) -> f64
     requires { (row < n) × (column < n) × (n * n ≤ length m.now) }
     ensures { result ≡ at m.now n row column }

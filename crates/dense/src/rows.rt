@@ -5,6 +5,7 @@ ghost use Rattle.dense.specs.Rows.{less_row_to, less_rows_to, over_to, forward_r
 use crate::at;
 
 // Row i less a factor times row k.
+#[tactic(auto, using(crate::proofs::Places::place_in))]
 fn less_row(r: &mut [f64], width: usize, i: usize, k: usize, factor: f64)
     requires { (k < i) × ((i + 1) * width ≤ length r.old) }
     ensures { r.new ≡ less_row_to width i k factor r.old width }

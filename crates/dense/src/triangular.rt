@@ -7,6 +7,7 @@ ghost use Rattle.dense.specs.Triangular.{inverse_triangular, inverse_diagonal};
 use crate::{at, dots, minus_dots, put, put_both};
 
 // Row i of the factor's inverse, left of the diagonal.
+#[tactic(auto, using(crate::proofs::Places::place))]
 fn lower_row(l: &[f64], n: usize, i: usize, inv: &mut [f64])
     requires { (i < n) × (n * n ≤ length l.now) × (n * n ≤ length inv.old) }
     ensures { inv.new ≡ lower_row_to l.now n i inv.old i }

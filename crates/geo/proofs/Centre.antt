@@ -1,20 +1,18 @@
 -- The centre of the earth has no height, so a place whose height lies within limits is elsewhere; and a finite point elsewhere has a finite latitude
 -- and longitude. Assumes nothing.
-use Rattle.std.proofs.Common.{◌≡◌, ℕ, zero, suc, true, false, ◌&&◌, T, ◌⊎◌, List, [], ◌∷◌, get_or, sym, refl, ap, ◌∙◌, subst, inl, inr}
-use lib.Ieee.{Float, nan, inf, fin, binary64, round, neg, add, sub, mul, div, lt, le, eq, ne, fits, of_bits, to_bits}
-use lib.Ieee.Bits.{is_true}
+use Rattle.std.proofs.Common.{◌≡◌, ℕ, zero, suc, true, ◌&&◌, T, [], ◌∷◌, get_or, ap, ◌∙◌, subst, inl, inr}
+use lib.Ieee.{Float, nan, binary64, round, neg, add, sub, mul, div, lt, le, eq, ne, of_bits, to_bits}
 use lib.Ieee.Fits.{and_l, and_r, nan-fits, mul-fits}
 use lib.Ieee.Scale.{finite}
-use Rattle.binary64.specs.Steps.{#, nought, decimal, abs, is_finite}
+use Rattle.binary64.specs.Steps.{nought, decimal, abs, is_finite}
 use Rattle.binary64.specs.Root.{root}
 use Rattle.binary64.specs.Meaning.{IsBinary64}
-use Rattle.binary64.proofs.Order.{is-finite, finite-is, within_in}
+use Rattle.binary64.proofs.Order.{finite-is, within_in}
 use Rattle.binary64.proofs.Finite.{mul-finite}
 use Rattle.libm.specs.Words.{high, negative, switch}
 use Rattle.libm.specs.Kernels.{k_sin, k_cos}
 use Rattle.libm.specs.Trig.{limit, sin, cos, sincos}
 use Rattle.libm.specs.Atan.{signs, atan2}
-use Rattle.libm.specs.Hypotenuse.{hypot}
 use Rattle.libm.proofs.Meaning.{limit_is}
 use Rattle.geo.specs.Geo.{A, F, E2, to_radians, prime_vertical, height, bowring, bowring_to, from_ecef}
 use Rattle.geo.specs.Meaning.{Turn, IsFinite, AtCentre}

@@ -1,24 +1,22 @@
 -- A place whose height lies within the solve's limits has a latitude within ±90 degrees and a longitude within ±180: the x that its last round hands
 -- to atan2 has its sign clear. Assumes nothing.
-use Rattle.std.proofs.Common.{◌≡◌, ℕ, zero, suc, ◌*◌, Bool, true, false, cond, ◌&&◌, T, List, [], ◌∷◌, sym, refl, ap, ◌∙◌, subst, inl, inr, arith, ne_eqb}
-use lib.Ieee.{Float, nan, inf, fin, binary64, up, down, round, neg, add, sub, mul, div, le, unlike, fits, of_bits}
+use Rattle.std.proofs.Common.{◌≡◌, ℕ, zero, suc, ◌*◌, Bool, true, false, cond, T, List, [], ◌∷◌, sym, refl, subst, inl, inr, arith, ne_eqb}
+use lib.Ieee.{Float, nan, inf, fin, binary64, up, down, round, neg, add, sub, mul, div, le, fits, of_bits}
 use lib.Ieee.Bits.{is_true}
 use lib.Ieee.Fits.{mul-fits}
 use lib.Ieee.Positive.{positive, between, above}
-use lib.Ieee.Scale.{finite}
 use Rattle.binary64.specs.Steps.{◌⊕◌, ◌⊖◌, ◌⊗◌, ◌⊘◌, decimal, nought, one, abs}
-use Rattle.binary64.specs.Root.{root}
 use Rattle.binary64.specs.Within.{Within}
 use Rattle.binary64.proofs.Clear.{clear}
 use Rattle.binary64.proofs.Units.{Is}
 use Rattle.binary64.proofs.Interval.{In, finite-between}
 use Rattle.binary64.proofs.Runs.{Step, lit, plus, minus, times, range, check, check_sound}
-use Rattle.binary64.proofs.Order.{weak, in_within, is-finite}
+use Rattle.binary64.proofs.Order.{in_within, is-finite}
 use Rattle.binary64.proofs.Quotient.{ratio-in}
 use Rattle.binary64.proofs.Numbers.{Num, finite-num}
 use Rattle.binary64.proofs.Finite.{round-clear}
 use Rattle.libm.specs.Words.{negative}
-use Rattle.libm.specs.Trig.{limit, sin, sincos}
+use Rattle.libm.specs.Trig.{sin, sincos}
 use Rattle.libm.specs.Atan.{pi, atan2}
 use Rattle.libm.specs.Hypotenuse.{hypot}
 use Rattle.libm.proofs.Unsigned.{not_negative}
@@ -26,8 +24,8 @@ use Rattle.libm.proofs.ArcBounds.{atan2-in}
 use Rattle.libm.proofs.Arcs.{q, atan2-half, atan2-quarter}
 use Rattle.libm.proofs.LengthBounds.{hypot-long}
 use Rattle.libm.proofs.Meaning.{sin-in}
-use Rattle.geo.specs.Geo.{A, F, E2, to_degrees, prime_vertical, height, bowring, bowring_to, from_ecef}
-use Rattle.geo.specs.Meaning.{IsFinite, AtCentre}
+use Rattle.geo.specs.Geo.{F, E2, to_degrees, prime_vertical, bowring, bowring_to, from_ecef}
+use Rattle.geo.specs.Meaning.{IsFinite}
 use Rattle.geo.proofs.Places.{short, long, prime-in, arc-limit, rounds-number}
 use Rattle.geo.proofs.Centre.{elsewhere}
 

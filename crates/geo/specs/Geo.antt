@@ -53,7 +53,8 @@ to_ecef position =
 
 -- the `if` of `from_ecef`: the height of a point p from the axis and z from the equator's plane, at a latitude
 unfoldable pub height : Float → Float → Float → Float → Float → Float
-height p z sin_lat cos_lat n = cond (lt (decimal 1 9) (abs cos_lat)) (p ⊘ cos_lat ⊖ n) (abs z ⊘ abs sin_lat ⊖ n ⊗ (one ⊖ E2))
+height p z sin_lat cos_lat n =
+    cond (lt (decimal 1 9) (abs cos_lat)) (p ⊘ cos_lat ⊖ n) (abs z ⊘ abs sin_lat ⊖ n ⊗ (one ⊖ E2))
 
 -- a round of `from_ecef` without its last call: the height, and the x that atan2 takes beside z
 unfoldable pub bowring : Float → Float → Float → Round
@@ -94,7 +95,11 @@ millimetres metres = to_signed 63 (half_away (metres ⊗ decimal 1000 0))
 
 -- `to_mm`
 unfoldable pub to_mm : List Float → List ℤ
-to_mm ecef = millimetres (slice_index_or ecef 0 nan) ∷ millimetres (slice_index_or ecef 1 nan) ∷ millimetres (slice_index_or ecef 2 nan) ∷ []
+to_mm ecef =
+    millimetres (slice_index_or ecef 0 nan)
+    ∷ millimetres (slice_index_or ecef 1 nan)
+    ∷ millimetres (slice_index_or ecef 2 nan)
+    ∷ []
 
 -- `value as f64 / 1000.0`
 unfoldable pub metres : ℤ → Float
@@ -102,4 +107,5 @@ metres value = of_int binary64 value ⊘ decimal 1000 0
 
 -- `from_mm`
 unfoldable pub from_mm : List ℤ → List Float
-from_mm mm = metres (slice_index_or mm 0 (pos 0)) ∷ metres (slice_index_or mm 1 (pos 0)) ∷ metres (slice_index_or mm 2 (pos 0)) ∷ []
+from_mm mm =
+    metres (slice_index_or mm 0 (pos 0)) ∷ metres (slice_index_or mm 1 (pos 0)) ∷ metres (slice_index_or mm 2 (pos 0)) ∷ []

@@ -1,10 +1,10 @@
 -- The arc tangent of a number lies within ±pi/2, and not below 0 where the number is not; `atan2` of two lies within ±pi, and within ±pi/2 where the
 -- second has its sign clear. Both by their last bit: pi and pi/2 are the binary64 nearest to them. Assumes nothing.
-use Rattle.std.proofs.Common.{◌≡◌, ℕ, zero, suc, ◌+◌, ◌*◌, ◌^◌, ◌<◌, ◌≤◌, Bool, true, false, cond, not, ◌&&◌, ◌||◌, T, eqb, ltb, leb, ◌⊎◌, List, [], ◌∷◌, ◌++◌, ℤ, pos, sym, refl, ap, ◌∙◌, subst, inl, inr, true≢false, zero-lt-suc, mul-pos, zero-mul, arith, ltb-false, ltb-true, ne_eqb, leb-false}
+use Rattle.std.proofs.Common.{◌≡◌, ℕ, zero, suc, ◌+◌, ◌*◌, ◌^◌, ◌<◌, ◌≤◌, Bool, true, false, cond, ◌&&◌, ◌||◌, T, eqb, ltb, leb, ◌⊎◌, List, [], ◌∷◌, ℤ, pos, sym, refl, ap, ◌∙◌, subst, inl, inr, true≢false, zero-lt-suc, mul-pos, zero-mul, arith, ltb-false, ltb-true, ne_eqb, leb-false}
 use mathlib.Core.Bool.{false≢true}
-use lib.Ieee.{Float, nan, inf, fin, binary64, up, down, round, neg, add, sub, mul, div, le, lt, eq, ne, is_nan, unlike, fits, of_bits, to_bits}
+use lib.Ieee.{Float, nan, inf, fin, binary64, up, down, round, neg, add, sub, mul, div, le, eq, ne, is_nan, unlike, fits, of_bits, to_bits}
 use lib.Ieee.Bits.{is_true}
-use lib.Ieee.Fits.{and_l, and_r, up_pos, down_pos, neg-fits, div-fits}
+use lib.Ieee.Fits.{and_l, and_r, up_pos, neg-fits, div-fits}
 use lib.Ieee.Positive.{positive, between}
 use lib.Ieee.Scale.{round_same, finite}
 use Rattle.binary64.specs.Steps.{◌⊕◌, ◌⊖◌, ◌⊗◌, ◌⊘◌, #, decimal, nought, one, two, abs}
@@ -13,12 +13,12 @@ use Rattle.binary64.proofs.Units.{Is, P, le-trans-is}
 use Rattle.binary64.proofs.Rounded.{round-neg}
 use Rattle.binary64.proofs.Interval.{In, neg_is, neg-in, le_total}
 use Rattle.binary64.proofs.Runs.{Step, lit, plus, minus, times, range, at, run, check, check_sound}
-use Rattle.binary64.proofs.Order.{cases, abs-cases, abs-in, abs_is, abs-abs, weak, choice-in, neg-neg}
+use Rattle.binary64.proofs.Order.{abs-cases, abs-in, abs-abs, weak, choice-in, neg-neg}
 use Rattle.binary64.proofs.Quotient.{ratio-in}
 use Rattle.binary64.proofs.Finite.{not-less}
 use Rattle.binary64.proofs.Numbers.{Num, div-num, some-num}
 use Rattle.libm.specs.Words.{high, word, negative, signed, switch}
-use Rattle.libm.specs.Atan.{atanhi, atanlo, series, reduce, atan, pi, pi-lo, pi-o-2, tiny, signs, quarter, x_inf, quotient, atan2}
+use Rattle.libm.specs.Atan.{atanhi, atanlo, series, reduce, atan, pi, pi-lo, pi-o-2, signs, quarter, x_inf, quotient, atan2}
 use Rattle.libm.specs.declared.atan.Arc.{Arc}
 use Rattle.libm.proofs.Unsigned.{not_negative}
 use Rattle.libm.proofs.HighWords.{word-is, high-below, high-above, high-between, zero-or-least}

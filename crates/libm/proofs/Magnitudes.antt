@@ -1,7 +1,7 @@
 -- The bits of a number without the sign: its magnitude and its high word; and what a sum of squares that is a number tells of what was squared.
 -- Assumes nothing.
-use Rattle.std.proofs.Common.{◌≡◌, ◌*◌, ◌/◌, ◌%◌, ◌^◌, ◌≤◌, Bool, true, not, T, sym, refl, ap, ◌∙◌, subst, arith, nltb→le}
-use lib.Ieee.{Float, nan, inf, fin, binary64, hid, ones, top, is_nan, nan_bits, mul, fits, to_bits}
+use Rattle.std.proofs.Common.{◌≡◌, ◌*◌, ◌/◌, ◌%◌, ◌^◌, ◌≤◌, Bool, true, not, T, refl, ap, ◌∙◌, subst, arith, nltb→le}
+use lib.Ieee.{Float, nan, inf, fin, binary64, hid, ones, top, is_nan, mul, fits, to_bits}
 use lib.Ieee.Bits.{nan_bits_above}
 use Rattle.binary64.specs.Steps.{◌⊕◌, ◌⊗◌, #, abs}
 use Rattle.binary64.proofs.Patterns.{back, clear-number}

@@ -1,7 +1,7 @@
 -- An angle above pi/4 and below 3 pi/4, not near pi/2: n is 1, so that the sine is the cosine of the rest, and the cosine the sine of it, turned.
 -- Assumes nothing.
-use Rattle.std.proofs.Common.{◌≡◌, ◌%◌, ◌^◌, ◌<◌, true, not, eqb, ltb, sym, ap, ◌∙◌, arith, ltb-true, lt-ltb}
-use borrow.Author.Tests.{lt-leb}
+use Rattle.std.proofs.Common.{◌≡◌, ◌%◌, ◌^◌, ◌<◌, true, sym, ap, ◌∙◌, arith, lt-ltb}
+use borrow.Author.Tests.{lt-leb, ne_eqb}
 use lib.Ieee.{Float, binary64, neg, le, lt, fits, of_bits, to_bits}
 use lib.Ieee.Bits.{is_true}
 use Rattle.binary64.specs.Steps.{◌⊖◌, nought, abs, is_finite}
@@ -34,24 +34,24 @@ to-limit x f h =
     is_true (le (abs x) limit)
     (le-trans-is binary64 (abs x) (word 0x4002d97c) limit (abs_is x p) (tt, tt) (tt, tt) (high-below x p 0x4002d97c (omega arith) h) tt)
 
-module _ (x : Float) (f : fits binary64 x ≡ true) (above : lt nought x ≡ true) (past : 0x3fe921fb < high x) (below : ltb (high x) 0x4002d97c ≡ true)
-    (apart : not (eqb (high x) 0x3ff921fb) ≡ true) where
+module _ (x : Float) (f : fits binary64 x ≡ true) (above : lt nought x ≡ true) (past : 0x3fe921fb < high x) (below : high x < 0x4002d97c)
+    (apart : high x ≡ 0x3ff921fb → ⊥) where
   own : abs x ≡ x
   own = above-unsigned x above
 
   bound : le (abs x) limit ≡ true
-  bound = to-limit x f (ltb-true (high x) 0x4002d97c below)
+  bound = to-limit x f below
 
   abbrev rest : Reduced
   rest = split 1 (x ⊖ pio2 1) (pio2t 1)
 
   sine : sin x ≡ k_cos rest.y0 rest.y1
   unfolding sin signed quadrant rem_pio2 split switch
-  sine = rw (lt-leb (high x) 0x3fe921fb past, bound, not_negative x f own) (rw (own, below, apart))
+  sine = rw (lt-leb (high x) 0x3fe921fb past, bound, not_negative x f own) (rw (own, lt-ltb (high x) 0x4002d97c below, ne_eqb (high x) 0x3ff921fb apart))
 
   cosine : cos x ≡ neg (k_sin rest.y0 rest.y1 1)
   unfolding cos quadrant rem_pio2 split switch
-  cosine = rw (lt-leb (high x) 0x3fe921fb past, bound) (rw (own, below, apart))
+  cosine = rw (lt-leb (high x) 0x3fe921fb past, bound) (rw (own, lt-ltb (high x) 0x4002d97c below, ne_eqb (high x) 0x3ff921fb apart))
 
   pub quarter : (sin x ≡ k_cos rest.y0 rest.y1) × (cos x ≡ neg (k_sin rest.y0 rest.y1 1))
   quarter = (sine, cosine)

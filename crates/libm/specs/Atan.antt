@@ -12,10 +12,12 @@ use Rattle.libm.specs.declared.atan.Arc.{Arc}
 --   9.82793723247329054082e-01 and 1.39033110312309984516e-17
 --   1.57079632679489655800e+00 and 6.12323399573676603587e-17
 abbrev pub atanhi : ℕ → Float
-atanhi id = slice_index_or (# 0x3FDDAC670561BB4F ∷ # 0x3FE921FB54442D18 ∷ # 0x3FEF730BD281F69B ∷ # 0x3FF921FB54442D18 ∷ []) id nan
+atanhi id =
+    slice_index_or (# 0x3FDDAC670561BB4F ∷ # 0x3FE921FB54442D18 ∷ # 0x3FEF730BD281F69B ∷ # 0x3FF921FB54442D18 ∷ []) id nan
 
 abbrev pub atanlo : ℕ → Float
-atanlo id = slice_index_or (# 0x3C7A2B7F222F65E2 ∷ # 0x3C81A62633145C07 ∷ # 0x3C7007887AF0CBBD ∷ # 0x3C91A62633145C07 ∷ []) id nan
+atanlo id =
+    slice_index_or (# 0x3C7A2B7F222F65E2 ∷ # 0x3C81A62633145C07 ∷ # 0x3C7007887AF0CBBD ∷ # 0x3C91A62633145C07 ∷ []) id nan
 
 -- s1 + s2, with aT[]: "break sum from i=0 to 10 aT[i]z**(i+1) into odd and even poly"
 unfoldable pub series : Float → Float

@@ -30,7 +30,8 @@ sin x = cond (nat_le (high x) 0x3fe921fb) (k_sin x nought 0)
 
 -- `cos`, by the same cases
 unfoldable pub cos : Float → Float
-cos x = cond (nat_le (high x) 0x3fe921fb) (k_cos x nought) (cond (le (abs x) limit) (quadrant (rem_pio2 (abs x))).cos nan)
+cos x = cond (nat_le (high x) 0x3fe921fb) (k_cos x nought)
+    (cond (le (abs x) limit) (quadrant (rem_pio2 (abs x))).cos nan)
 
 -- document 01's "both together": the pair
 unfoldable pub sincos : Float → SinCos

@@ -24,6 +24,7 @@ module _ (n : ℕ) (fails : ℕ → ℕ → Bool) where
   taken k j t = go (goes n fails (alive k)) t
     where
       go : (o : Option ℕ) → T (Option-elim o false (eqb j)) → o ≡ some j
+      go none u = elim u [ ]
       go (some i) u = ap some (sym (eqb→eq j i u))
 
   take : (k j : ℕ) → goes n fails (alive k) ≡ some j → T (takes n fails k j)

@@ -1,3 +1,4 @@
 pub mod Solving
 pub mod Meaning
+pub mod Next
 pub mod Long

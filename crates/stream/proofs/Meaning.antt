@@ -127,11 +127,11 @@ module _ (p : Parts) (w : Writable p) (more : List ℕ) where
       le-leb (body_bytes (head_of (written p ++ more))) (length (body_of p ++ more))
       (rw (ap body_bytes head-back, ← body-size, length-append (body_of p) more) (omega arith))
 
-  answers-back : (out : List ℕ) → solved_next (written p ++ more) out ≡ whole (length (written p)) p out
+  pub answers-back : (out : List ℕ) → solved_next (written p ++ more) out ≡ whole (length (written p)) p out
   answers-back out =
       rw (long, within) (ap₂ (λ (u : ℕ) (q : Parts). whole u q out) bytes_back first_back)
 
-  outputs-back : (out : List ℕ) → output_next (written p ++ more) out ≡ output (asked p) out
+  pub outputs-back : (out : List ℕ) → output_next (written p ++ more) out ≡ output (asked p) out
   outputs-back out = rw (long, within) (ap (λ (q : Parts). output (asked q) out) first_back)
 
 -- ---- a stream that ends early
@@ -155,7 +155,7 @@ same_head s more l =
       same_word s more 12 (omega arith),
     )
 
-torn-back
+pub torn-back
     : (p : Parts) (front more out : List ℕ) → Writable p → written p ≡ front ++ more → 0 < length more
     → (solved_next front out ≡ torn) × (output_next front out ≡ out)
 torn-back p front more out w e l = go (leb 16 (length front)) refl

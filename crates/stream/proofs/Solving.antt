@@ -5,8 +5,8 @@ use mathlib.Core.Bool.{Bool, true, false, cond}
 use mathlib.Core.List.{List, []}
 use mathlib.Core.Option.{Option, get_or}
 use native.Mathlib.Omega.{arith}
-use borrow.Author.Tests.{le-leb, lt-leb}
-use lib.Dec.{eqb, leb}
+use borrow.Author.Tests.{le-leb, lt-leb, le-ltb, lt-ltb}
+use lib.Dec.{eqb, leb, ltb}
 use lib.ListN.{length, take, drop}
 use Rattle.inputs.specs.declared.Given.{Given}
 use Rattle.inputs.specs.Inputs.{Inputs, if_there}
@@ -18,6 +18,7 @@ use Rattle.stream.specs.declared.Head.{Head}
 use Rattle.stream.specs.declared.Solved.{Solved}
 use Rattle.stream.specs.Frames.{absent, head_of, size_of, clock_from, altitude_from, reference_from, body_bytes}
 use Rattle.stream.specs.Frames.{input, parts_of, asked, torn, whole, solved, output_after, solved_next, output_next}
+use Rattle.stream.specs.Frames.{next_answer, next_output, used_after}
 use Rattle.stream.specs.Held.{there, present_of}
 
 -- bytes that are lent, if they are there
@@ -37,12 +38,12 @@ received mark body = go (eqb mark absent) refl
     go false e = rw e
 
 -- four inputs by bits are four inputs that are there or not
-by_bits
+pub by_bits
     : (rs cs al re : List ℕ) (c a r : Bool) → lent rs cs al re (present_bits c a r) ≡ filed rs (if_there c cs) (if_there a al) (if_there r re)
 by_bits rs cs al re c a r =
     ap (λ (g : Given). filed rs (if_there g.clock cs) (if_there g.altitude al) (if_there g.reference re)) (cut-replies-alike.bits c a r)
 
-alike
+pub alike
     : (rs rs' : List ℕ) (c c' a a' r r' : Option (List ℕ)) → rs ≡ rs' → c ≡ c' → a ≡ a' → r ≡ r' → filed rs c a r ≡ filed rs' c' a' r'
 alike rs rs' c c' a a' r r' e f g h =
     ap₂ (λ (x : List ℕ) (y : Option (List ℕ)). filed x y a r) e f ∙ ap₂ (λ (x y : Option (List ℕ)). filed rs' c' x y) g h
@@ -115,3 +116,31 @@ module _ (s out : List ℕ) where
         eo ∙ ap₂ (λ (x : Head) (y : List ℕ). output_after x y out) eh eb
             ∙ sym (ap (λ (q : Bool). cond q (output_after (head_of s) (drop 16 s) out) out) t),
       )
+
+  -- ---- for a caller who lends a number too
+  module _ (found : ℕ) where
+    pub answer-short : length out < 176 → (14 ≡ next_answer s out) × ((out ≡ next_output s out) × (found ≡ used_after s out found))
+    answer-short l = let t = lt-ltb (length out) 176 l in (rw t, (rw t, rw t))
+
+    module _ (r : Solved) (after : List ℕ) (l : 176 ≤ length out) (er : r ≡ solved_next s out) (eo : after ≡ output_next s out) where
+      room : ltb (length out) 176 ≡ false
+      room = le-ltb (length out) 176 l
+
+      output-is : after ≡ next_output s out
+      output-is = eo ∙ sym (ap (λ (q : Bool). cond q out (output_next s out)) room)
+
+      answer-is : (b : Bool) → r.whole ≡ b → cond b r.number 16 ≡ next_answer s out
+      answer-is b e =
+          sym (ap (λ (q : Bool). cond q r.number 16) e) ∙ ap (λ (x : Solved). cond x.whole x.number 16) er
+          ∙ sym (ap (λ (q : Bool). cond q 14 (cond (solved_next s out).whole (solved_next s out).number 16)) room)
+
+      used_is : (b : Bool) → r.whole ≡ b → cond b r.used found ≡ used_after s out found
+      used_is b e =
+          sym (ap (λ (q : Bool). cond q r.used found) e) ∙ ap (λ (x : Solved). cond x.whole x.used found) er
+          ∙ sym (ap (λ (q : Bool). cond q found (cond (solved_next s out).whole (solved_next s out).used found)) room)
+
+      pub answer-whole : r.whole ≡ true → (r.number ≡ next_answer s out) × ((after ≡ next_output s out) × (r.used ≡ used_after s out found))
+      answer-whole e = (answer-is true e, (output-is, used_is true e))
+
+      pub answer-torn : r.whole ≡ false → (16 ≡ next_answer s out) × ((after ≡ next_output s out) × (found ≡ used_after s out found))
+      answer-torn e = (answer-is false e, (output-is, used_is false e))

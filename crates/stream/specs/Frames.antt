@@ -1,11 +1,13 @@
 -- A stream of problems, one after the other, as docs/GUIDE.md ('Many problems at once') has it. A problem is 16 bytes,
 -- the lengths of its receptions, clock covariance, altitude and reference, u32 each, little-endian, where 0xFFFFFFFF
 -- marks an input that is absent; then the bytes of the inputs that are there, in this order. Definitions only.
-use Rattle.std.specs.Prelude.{ℕ, ◌+◌, ◌-◌, ◌%◌, min, true, false, cond, List, [], eqb, leb, length, take, drop}
+use Rattle.std.specs.Prelude.{ℕ, ◌+◌, ◌-◌, ◌%◌, min, true, false, cond, List, [], eqb, leb, ltb, length, take, drop}
 use Rattle.std.proofs.Math.Option.{Option, none, some, get_or}
+use Rattle.refusals.specs.Refusals.{short_output, torn_file}
 use Rattle.words.specs.Words.{u32_at}
 use Rattle.receptions.specs.Receptions.{reception_bytes}
 use Rattle.inputs.specs.Inputs.{Inputs}
+use Rattle.record.specs.Record.{record_bytes}
 use Rattle.entry.specs.Cut.{filed, one_too_many, taken}
 use Rattle.entry.specs.Reply.{answer, output}
 use Rattle.stream.specs.declared.Head.{Head}
@@ -84,6 +86,23 @@ solved_next s out = cond (leb 16 (length s)) (solved (head_of s) (drop 16 s) out
 
 abbrev pub output_next : List ℕ → List ℕ → List ℕ
 output_next s out = cond (leb 16 (length s)) (output_after (head_of s) (drop 16 s) out) out
+
+-- ---- what the caller gets who lends `out`, and a number for the bytes that the problem takes
+
+-- 14 where under 176 bytes are lent, tested first; 16, a torn file, where the stream ends within its first problem;
+-- otherwise the solve's answer
+abbrev pub next_answer : List ℕ → List ℕ → ℕ
+next_answer s out =
+    cond (ltb (length out) record_bytes) short_output
+    (cond (solved_next s out).whole (solved_next s out).number torn_file)
+
+-- for 14 and 16 output and number stay as found
+abbrev pub next_output : List ℕ → List ℕ → List ℕ
+next_output s out = cond (ltb (length out) record_bytes) out (output_next s out)
+
+abbrev pub used_after : List ℕ → List ℕ → ℕ → ℕ
+used_after s out found =
+    cond (ltb (length out) record_bytes) found (cond (solved_next s out).whole (solved_next s out).used found)
 
 -- ---- inputs that are too long: the length of what is kept of each
 

@@ -1,12 +1,13 @@
--- What reading a stream comes to, in words that know nothing of how it is read. Statements only: proofs/Meaning.antt
--- and proofs/Long.antt prove them.
-use Rattle.std.specs.Prelude.{ℕ, zero, suc, ◌+◌, ◌/◌, ◌%◌, ◌<◌, ◌≡◌, List, [], ◌∷◌, ◌++◌, length, take, drop}
+-- What reading a stream comes to, in words that know nothing of how it is read. Statements only: proofs/Meaning.antt,
+-- proofs/Next.antt and proofs/Long.antt prove them.
+use Rattle.std.specs.Prelude.{ℕ, zero, suc, ◌+◌, ◌/◌, ◌%◌, ◌<◌, ◌≤◌, ◌≡◌, ◌↔◌, Bool, true, false, List, [], ◌∷◌, ◌++◌, length, take, drop}
 use Rattle.std.proofs.Math.Option.{Option, none, some, map, get_or}
-use Rattle.entry.specs.Cut.{cut_of}
-use Rattle.entry.specs.Reply.{reply, output}
+use Rattle.inputs.specs.Inputs.{Inputs}
+use Rattle.entry.specs.Cut.{present_bits, cut_of}
+use Rattle.entry.specs.Reply.{lent, reply, answer, output}
 use Rattle.stream.specs.declared.Head.{Head}
 use Rattle.stream.specs.Frames.{absent, head_of, body_bytes, Parts, parts_of, asked}
-use Rattle.stream.specs.Frames.{torn, whole, solved_next, output_next, kept}
+use Rattle.stream.specs.Frames.{torn, whole, solved_next, output_next, next_answer, next_output, used_after, kept}
 
 -- ---- how a problem is written
 
@@ -72,6 +73,40 @@ pub record ReadBack : Type 0 where
   pub ends :
       (p : Parts) (front more out : List ℕ) → Writable p → written p ≡ front ++ more → 0 < length more
       → (solved_next front out ≡ torn) × (output_next front out ≡ out)
+
+-- ---- what a caller of `mlat_solve_next` gets
+
+abbrev pub is_there : Option (List ℕ) → Bool
+is_there none = false
+is_there (some bytes) = true
+
+-- what `mlat_solve` is asked by a caller who has the problem itself: its inputs, and the bits of those that are there
+abbrev pub lent_by : Parts → Inputs
+lent_by p =
+    lent (bytes_of p.receptions) (bytes_of p.clock) (bytes_of p.altitude) (bytes_of p.reference)
+    (present_bits (is_there p.clock) (is_there p.altitude) (is_there p.reference))
+
+pub record NextSolved : Type 0 where
+  -- to a problem, whatever follows it, the answer of `mlat_solve`
+  pub answers :
+      (p : Parts) (more out : List ℕ) → Writable p → next_answer (written p ++ more) out ≡ answer (lent_by p) out
+  -- its output
+  pub outputs :
+      (p : Parts) (more out : List ℕ) → Writable p → next_output (written p ++ more) out ≡ output (lent_by p) out
+  -- and how many bytes the problem has
+  pub used :
+      (p : Parts) (more out : List ℕ) (found : ℕ) → Writable p → 176 ≤ length out
+      → used_after (written p ++ more) out found ≡ length (written p)
+  -- 16 exactly where the stream ends before its first problem does
+  pub torn : (s out : List ℕ) → 176 ≤ length out → (next_answer s out ≡ 16) ↔ (length s < takes s)
+  -- as every start of a problem does
+  pub ends :
+      (p : Parts) (front more out : List ℕ) → Writable p → written p ≡ front ++ more → 0 < length more
+      → 176 ≤ length out → next_answer front out ≡ 16
+  -- and then all stays as found
+  pub stays :
+      (s out : List ℕ) (found : ℕ) → next_answer s out ≡ 16
+      → (next_output s out ≡ out) × (used_after s out found ≡ found)
 
 -- ---- problems one after another
 

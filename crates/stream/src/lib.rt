@@ -11,6 +11,9 @@ ghost use Rattle.stream.specs.Held as held;
 // The bytes of the four lengths.
 pub const HEAD: usize = 16;
 
+// The bytes of a record.
+const RECORD: usize = 176;
+
 // In the place of a length, for an input that is absent.
 const ABSENT: u32 = 0xffff_ffff;
 
@@ -130,6 +133,24 @@ pub fn solve_next(stream: &[u8], out: &mut [u8]) -> Solved
     }
     let head = head_of(stream);
     solve_body(head, &stream[HEAD..], out)
+}
+
+// The same for a caller who lends an output of any length, and a number for the bytes that the problem takes: 14 where
+// the output is under 176 bytes, tested first; 16 where the stream ends within the problem. Then both stay as found.
+pub fn answer_next(stream: &[u8], out: &mut [u8], used: &mut u64) -> u32
+    ensures answer { result ≡ frames.next_answer stream.now out.old }
+    ensures output { out.new ≡ frames.next_output stream.now out.old }
+    ensures used { used.new ≡ frames.used_after stream.now out.old used.old }
+{
+    if out.len() < RECORD {
+        return refusals::SHORT_OUTPUT;
+    }
+    let first = solve_next(stream, out);
+    if first.whole {
+        *used = first.used as u64;
+        return first.number;
+    }
+    refusals::TORN_FILE
 }
 
 // Of receptions that are too many, one too many are kept, or, where they are torn, one byte fewer.

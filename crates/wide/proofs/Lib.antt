@@ -1,5 +1,4 @@
 -- The laws that the proofs share.
 pub mod Words
 pub mod Digits
-pub mod Distance
 pub mod Floor

@@ -5,7 +5,6 @@ use mathlib.Core.Path.{◌≡◌, sym, ap, ◌∙◌}
 use mathlib.Core.List.{List, ◌++◌}
 use native.Mathlib.Omega.{arith}
 use lib.ListN.{length, drop}
-use borrow.Author.Tests.{not-true, not-false}
 use Rattle.reader.specs.declared.content.Reading.{Reading}
 use Rattle.reader.proofs.Meaning.{accepted}
 use Rattle.archive.proofs.Pasted.{over-front}
@@ -29,7 +28,7 @@ pub returns-then-not-equal_mirror : goal.returns-then-not-equal_mirror
 returns-then-not-equal_mirror c = let both = to-left _ _ 20
     (to-unequal c.args.bytes.now c.args.out.now c.if-out-lt-NEW.false
     (ap (λ (r : Reading). r.refusal) (sym c.read-reading.ensures) ∙ c.if-reading-ne0.false)
-    (sym c.equal_mirror.ensures ∙ not-true c.equal_mirror.result c.if-not-equal_mirror.true))
+    (sym c.equal_mirror.ensures ∙ c.if-not-equal_mirror.true))
     (λ e. omega arith) in record { answer = both.0; output = both.1 }
 
 pub new_form-moved-requires : goal.new_form-moved-requires
@@ -41,7 +40,7 @@ returns c =
     let out = c.args.out.now in
     let e = to-moved c.args.bytes.now out c.if-out-lt-NEW.false
     (ap (λ (r : Reading). r.refusal) (sym c.read-reading.ensures) ∙ c.if-reading-ne0.false)
-    (sym c.equal_mirror.ensures ∙ not-false c.equal_mirror.result c.if-not-equal_mirror.false) in
+    (sym c.equal_mirror.ensures ∙ c.if-not-equal_mirror.false) in
     let formed = c.new_form-moved.ensures in
     let sized : length c.new_form-moved.result ≡ 152 = search rules in
     let stored = c.copy.ensures ∙ over-front out c.new_form-moved.result 152 sized in record {

@@ -9,4 +9,4 @@ use Rattle.asterix.proofs.angle.Goals as goal
 
 pub returns : goal.returns
 unfolding angle
-returns c = back c.nearest.type-inv ∙ c.nearest.ensures ∙ rw (to_z-of_z w32 c.args.w c.ranges.w)
+returns c = back c.nearest.type_inv ∙ c.nearest.ensures ∙ rw (to_z-of_z w32 c.args.w c.ranges.w)

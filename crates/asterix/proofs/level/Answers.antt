@@ -14,5 +14,5 @@ pub returns : goal.returns
 unfolding level
 returns c =
     let mm = c.args.mm in
-    back c.nearest.type-inv ∙ c.nearest.ensures
+    back c.nearest.type_inv ∙ c.nearest.ensures
     ∙ ap (λ (z : ℤ). nearest z 1905) (ap (λ (z : ℤ). z *ℤ pos 1) (to_z-of_z w32 mm c.ranges.mm) ∙ once mm)

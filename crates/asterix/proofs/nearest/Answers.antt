@@ -28,5 +28,5 @@ pub returns : goal.returns
 returns c =
     let w = c.args.w in
     let same : to_z w32 (of_z w32 w) ≡ w = to_z-of_z w32 w c.ranges.w in
-    back c.signed.type-inv ∙ c.signed.ensures
+    back c.signed.type_inv ∙ c.signed.ensures
     ∙ rw (c.rounded.ensures, c.size.ensures.0, same) (by_sign w c.args.times c.args.den c.requires.1)

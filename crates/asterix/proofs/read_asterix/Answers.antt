@@ -10,9 +10,9 @@ use Rattle.asterix.proofs.read_asterix.Goals as goal
 pub returns-then-s-eq-LENGTH : goal.returns-then-s-eq-LENGTH
 returns-then-s-eq-LENGTH c =
     three _ c.if-s-eq-LENGTH.true
-    (back c.from_bits.type-inv ∙ c.from_bits.ensures ∙ ap (complement (2 ^ 31)) c.four_at.ensures.0)
-    (back c.from_bits-then-s-eq-LENGTH.type-inv ∙ c.from_bits-then-s-eq-LENGTH.ensures ∙ ap (complement (2 ^ 31)) c.four_at-then-s-eq-LENGTH.ensures.0)
-    (back c.from_bits-then-s-eq-LENGTH-2.type-inv ∙ c.from_bits-then-s-eq-LENGTH-2.ensures ∙ ap (complement (2 ^ 15)) c.two_at.ensures.0)
+    (back c.from_bits.type_inv ∙ c.from_bits.ensures ∙ ap (complement (2 ^ 31)) c.four_at.ensures.0)
+    (back c.from_bits-then-s-eq-LENGTH.type_inv ∙ c.from_bits-then-s-eq-LENGTH.ensures ∙ ap (complement (2 ^ 31)) c.four_at-then-s-eq-LENGTH.ensures.0)
+    (back c.from_bits-then-s-eq-LENGTH-2.type_inv ∙ c.from_bits-then-s-eq-LENGTH-2.ensures ∙ ap (complement (2 ^ 15)) c.two_at.ensures.0)
 
 pub returns : goal.returns
 returns c = not-ten _ c.if-s-eq-LENGTH.false

@@ -2,6 +2,9 @@
 -- lent bytes. Assumes nothing.
 use mathlib.Core.Path.{◌≡◌, sym, ap, ◌∙◌}
 use native.Mathlib.Omega.{arith}
+use Prim.Native.Nat.{ℕ}
+use mathlib.Core.List.{List}
+use Rattle.asterix.specs.Held.{put_four}
 use lib.ListN.{length}
 use mir.Syntax.{w32}
 use mir.Val.{of_z}
@@ -10,26 +13,21 @@ use Rattle.asterix.proofs.Arms.{four-length, ten-long, joined, ten-stored, answe
 use borrow.Author.Rules.{rules}
 use Rattle.asterix.proofs.write_asterix.Goals as goal
 
--- the test passed, so there are ten bytes
-long : (c : goal.Then-fitting) → length c.args.out.now ≡ 10
-long c = ten-long _ _ (sym c.fitting.ensures ∙ c.if-fitting.true)
-
-one-long : (c : goal.After-put_four) → length c.put_four.new.0 ≡ 10
-one-long c =
-    ap length c.put_four.ensures ∙ four-length c.args.out.now 0 c.bits.result ∙ long c.before.before.before.before
-
-two-long : (c : goal.After-put_four-then-fitting) → length c.put_four-then-fitting.new.0 ≡ 10
-two-long c =
-    ap length c.put_four-then-fitting.ensures ∙ four-length c.put_four.new.0 4 c.bits-then-fitting.result ∙ one-long c.before.before.before.before.before.before
+-- four bytes that are put keep the length
+kept : (s t : List ℕ) (k x : ℕ) → t ≡ put_four s k x → length s ≡ 10 → length t ≡ 10
+kept s t k x e h = ap length e ∙ four-length s k x ∙ h
 
 pub put_four-requires : goal.put_four-requires
-put_four-requires c = let h = long c.before.before.before in omega arith
+put_four-requires c = let h = ten-long _ _ (sym c.fitting.ensures ∙ c.if-fitting.true) in omega arith
 
 pub put_four-requires-then-fitting : goal.put_four-requires-then-fitting
-put_four-requires-then-fitting c = let h = one-long c.before.before.before.before.before in omega arith
+put_four-requires-then-fitting c =
+    let h = kept _ _ _ _ c.put_four.ensures (ten-long _ _ (sym c.fitting.ensures ∙ c.if-fitting.true)) in omega arith
 
 pub put_two-requires : goal.put_two-requires
-put_two-requires c = let h = two-long c.before.before.before.before.before in omega arith
+put_two-requires c =
+    let h = kept _ _ _ _ c.put_four-then-fitting.ensures
+        (kept _ _ _ _ c.put_four.ensures (ten-long _ _ (sym c.fitting.ensures ∙ c.if-fitting.true))) in omega arith
 
 pub returns-then-fitting : goal.returns-then-fitting
 returns-then-fitting c =

@@ -1,6 +1,6 @@
 -- `binary64::from_bits` meets its contract: below the sign, only a not-a-number's bits are above the infinity's (`pattern-nan`, `pattern_number`).
 -- Assumes nothing.
-use mathlib.Core.Path.{refl, sym, ◌∙◌}
+use mathlib.Core.Path.{sym, ◌∙◌}
 use Rattle.binary64.proofs.Patterns.{pattern_number, pattern-nan, zero_by_zero}
 use Rattle.binary64.proofs.from_bits.Goals as goal
 

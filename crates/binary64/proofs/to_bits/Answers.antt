@@ -1,5 +1,4 @@
 -- `binary64::to_bits` meets its contract: what differs from itself is the not-a-number, whose bits the definition has. Assumes nothing.
-use mathlib.Core.Path.{refl}
 use lib.Ieee.{to_bits}
 use Rattle.binary64.proofs.Patterns.{number, is-nan}
 use Rattle.binary64.proofs.to_bits.Goals as goal

@@ -1,15 +1,9 @@
 -- `dense::backward` meets its contract. The invariant: x holds the solution in its last m rows of n and y in the others
 -- (`backward-keeps`), and keeps its length. The measure is what is left of n. Assumes nothing.
-use mathlib.Core.Path.{◌≡◌, refl, sym}
-use Prim.Native.Nat.{suc, ◌≤◌, ◌+◌, ◌-◌}
-use native.Mathlib.Nat.{mul-one}
-use native.Mathlib.Numerals.{add-one}
-use native.Mathlib.Omega.{arith}
-use lib.ListN.{length, length-set}
-use Rattle.dense.specs.Entries.{nth}
+use mathlib.Core.Path.{◌≡◌}
+use Prim.Native.Nat.{◌≤◌, ◌-◌}
+use lib.ListN.{length}
 use Rattle.dense.specs.Solve.{backward_to}
-use Rattle.dense.proofs.Places.{start, place, down}
-use Rattle.dense.proofs.Keeps.{backward-keeps}
 use Rattle.dense.proofs.backward.Given as goal
 
 abbrev pub invariant-loop-m : goal.invariant-loop-m

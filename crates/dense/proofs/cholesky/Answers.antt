@@ -1,22 +1,13 @@
 -- `dense::cholesky` meets its contract. The invariant: l holds the factor's columns below j, none of them refused, and keeps its length. What a pivot
 -- does to it is `next` and `stopped`. The measure is what is left of n. Assumes nothing.
-use borrow.Author.Rules.{rules}
 use mathlib.Core.Path.{◌≡◌, refl, sym}
-use Prim.Native.Nat.{◌≤◌, ◌-◌}
 use native.Mathlib.Nat.{mul-one}
 use native.Mathlib.Numerals.{add-one}
 use native.Mathlib.Omega.{arith}
-use lib.ListN.{length}
-use Rattle.dense.specs.Factor.{found, pivot, cholesky_to}
+use Rattle.dense.specs.Factor.{pivot, cholesky_to}
 use Rattle.dense.proofs.Places.{start, place}
 use Rattle.dense.proofs.Columns.{next, stopped}
 use Rattle.dense.proofs.cholesky.Goals as goal
-
--- what `minus_dots` gives is the pivot
-is-pivot : (c : goal.After-minus_dots-diagonal) →
-    let args = c.args in
-    c.minus_dots-diagonal.result ≡ pivot args.a.now args.n c.loop-j.j c.loop-j.l
-is-pivot c = rw (c.minus_dots-diagonal.ensures, c.at.ensures) (simp mul-one)
 
 pub loop-j-init : goal.loop-j-init
 unfolding cholesky_to
@@ -41,13 +32,18 @@ shape_of-l-else-diagonal c = c.loop-j.invariant.1
 
 pub returns-else-diagonal : goal.returns-else-diagonal
 returns-else-diagonal c =
-    let below = rw (is-pivot c.before) at c.if-diagonal.false in
+    let args = c.args in
+    let pivot_is : c.minus_dots-diagonal.result ≡ pivot args.a.now args.n c.loop-j.j c.loop-j.l =
+    rw (c.minus_dots-diagonal.ensures, c.at.ensures) (simp mul-one) in
+    let below = rw pivot_is at c.if-diagonal.false in
     sym (stopped _ _ _ _ _ _ (omega arith) c.loop-j.invariant.2 below)
 
 pub loop-j-preserved : goal.loop-j-preserved
 loop-j-preserved c =
-    let above = rw (is-pivot c.before.before.before.before.before.before.before.before.before.before) at
-    c.if-diagonal.true in
+    let args = c.args in
+    let pivot_is : c.minus_dots-diagonal.result ≡ pivot args.a.now args.n c.loop-j.j c.loop-j.l =
+    rw (c.minus_dots-diagonal.ensures, c.at.ensures) (simp mul-one) in
+    let above = rw pivot_is at c.if-diagonal.true in
     let more = next _ _ _ _ _ c.loop-j.invariant.2 above in (
       omega arith,
       omega arith,
@@ -57,7 +53,7 @@ loop-j-preserved c =
         c.column.ensures,
         c.put.ensures,
         c.sqrt-root.ensures,
-        is-pivot c.before.before.before.before.before.before.before.before.before.before,
+        pivot_is,
       ),
     )
 

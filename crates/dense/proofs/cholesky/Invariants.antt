@@ -1,15 +1,9 @@
 -- `dense::cholesky` meets its contract. The invariant: l holds the factor's columns below j, none of them refused, and keeps its length. What a pivot
 -- does to it is `next` and `stopped`. The measure is what is left of n. Assumes nothing.
-use borrow.Author.Rules.{rules}
-use mathlib.Core.Path.{◌≡◌, refl, sym}
+use mathlib.Core.Path.{◌≡◌}
 use Prim.Native.Nat.{◌≤◌, ◌-◌}
-use native.Mathlib.Nat.{mul-one}
-use native.Mathlib.Numerals.{add-one}
-use native.Mathlib.Omega.{arith}
 use lib.ListN.{length}
-use Rattle.dense.specs.Factor.{found, pivot, cholesky_to}
-use Rattle.dense.proofs.Places.{start, place}
-use Rattle.dense.proofs.Columns.{next, stopped}
+use Rattle.dense.specs.Factor.{found, cholesky_to}
 use Rattle.dense.proofs.cholesky.Given as goal
 
 abbrev pub invariant-loop-j : goal.invariant-loop-j

@@ -1,10 +1,9 @@
 -- `dense::column` meets its contract. The invariant: l holds the column's rows from j + 1 to below i, and keeps its length. The measure is what is
 -- left of n. Assumes nothing.
 use mathlib.Core.Path.{◌≡◌, refl}
-use Prim.Native.Nat.{suc, ◌≤◌, ◌+◌, ◌-◌}
+use Prim.Native.Nat.{suc, ◌+◌, ◌-◌}
 use native.Mathlib.Nat.{mul-one, sub_self, add-sub_of_le}
 use native.Mathlib.Omega.{arith}
-use lib.ListN.{length}
 use Rattle.dense.specs.Factor.{column_to}
 use Rattle.dense.proofs.Places.{start, place}
 use Rattle.dense.proofs.column.Goals as goal

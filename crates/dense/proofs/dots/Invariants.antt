@@ -1,10 +1,7 @@
 -- `dense::dots` meets its contract. The invariant: the sum is that of the first k products. The places are those that the caller
 -- shows. The measure is what is left of m. Assumes nothing.
-use mathlib.Core.Path.{◌≡◌, refl}
-use Prim.Native.Nat.{◌≤◌, ◌<◌, ◌+◌, ◌*◌, ◌-◌}
-use native.Mathlib.Numerals.{add-one}
-use native.Mathlib.Omega.{arith}
-use lib.ListN.{length}
+use mathlib.Core.Path.{◌≡◌}
+use Prim.Native.Nat.{◌≤◌, ◌+◌, ◌*◌, ◌-◌}
 use Rattle.dense.specs.Entries.{nth, dots}
 use Rattle.dense.proofs.dots.Given as goal
 

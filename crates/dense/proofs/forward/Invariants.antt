@@ -1,15 +1,9 @@
 -- `dense::forward` meets its contract. The invariant: y holds the solution in its rows below i and b in the others (`forward-keeps`), and keeps its
 -- length. The measure is what is left of n. Assumes nothing.
-use mathlib.Core.Path.{◌≡◌, refl, sym}
+use mathlib.Core.Path.{◌≡◌}
 use Prim.Native.Nat.{◌≤◌, ◌-◌}
-use native.Mathlib.Nat.{mul-one, zero-add}
-use native.Mathlib.Numerals.{add-one}
-use native.Mathlib.Omega.{arith}
-use lib.ListN.{length, length-set}
-use Rattle.dense.specs.Entries.{nth}
+use lib.ListN.{length}
 use Rattle.dense.specs.Solve.{forward_to}
-use Rattle.dense.proofs.Places.{start, place}
-use Rattle.dense.proofs.Keeps.{forward-keeps}
 use Rattle.dense.proofs.forward.Given as goal
 
 abbrev pub invariant-loop-i : goal.invariant-loop-i

@@ -1,8 +1,7 @@
 -- `dense::inverse` meets its contract. The invariant: m holds the solutions of the unit vectors below `column` in its columns, and keeps its length.
 -- Each is solved in the first n of 32 entries (`unit-part`). The measure is what is left of n. Assumes nothing.
-use borrow.Author.Rules.{rules}
 use mathlib.Core.Path.{◌≡◌, refl, sym, ap, ◌∙◌}
-use Prim.Native.Nat.{ℕ, ◌≤◌, ◌-◌}
+use Prim.Native.Nat.{ℕ, ◌≤◌, ◌<◌}
 use native.Mathlib.Numerals.{add-one}
 use native.Mathlib.Omega.{arith}
 use lib.ListN.{length, take, set, replicate, length-append}
@@ -13,55 +12,51 @@ use Rattle.dense.proofs.Units.{unit, unit-part, unit-length}
 use Rattle.dense.proofs.inverse.Goals as goal
 
 -- what is lent to `solve`
-module _ (c : goal.In-loop-column) where
-  abbrev n : ℕ
-  n = c.before.before.before.before.args.n
+lent : (n column : ℕ) → column < n → n ≤ 32 → take n (set (replicate 32 nought) column one) ≡ unit n column
+lent n column h g = unit-part n column 32 h g
 
-  abbrev column : ℕ
-  column = c.before.loop.column
-
-  lent : take n (set (replicate 32 nought) column one) ≡ unit n column
-  lent = unit-part n column 32 (omega arith) (omega arith)
-
-  lent_length : length (take n (set (replicate 32 nought) column one)) ≡ n
-  lent_length = ap length lent ∙ unit-length n column
-
--- what is lent to `put_column`: what `solve` left
-left : (c : goal.After-x-in-loop-column-1) → length c.solve.new.1.1.0 ≡ n c.before.before.before
-left c = c.x-in-loop-column-1.given ∙ lent_length c.before.before.before
+lent_length : (n column : ℕ) → column < n → n ≤ 32 → length (take n (set (replicate 32 nought) column one)) ≡ n
+lent_length n column h g = ap length (lent n column h g) ∙ unit-length n column
 
 pub loop-column-init : goal.loop-column-init
 unfolding columns_to
 loop-column-init c = (omega arith, refl, refl)
 
 pub slice_bounds-solve-end : goal.slice_bounds-solve-end
-slice_bounds-solve-end c = sym (lent_length c.before)
+slice_bounds-solve-end c = sym (lent_length c.args.n c.loop-column.column (omega arith) (omega arith))
 
 pub solve-requires : goal.solve-requires
-solve-requires c = omega (arith, lent_length c.before)
+solve-requires c = omega (arith, lent_length c.args.n c.loop-column.column (omega arith) (omega arith))
 
 pub slice_bounds-x-end-in-loop-column : goal.slice_bounds-x-end-in-loop-column
-slice_bounds-x-end-in-loop-column c = simp length-append (omega (arith, left c.before))
+slice_bounds-x-end-in-loop-column c =
+    let left = c.solve.auto.x ∙ lent_length c.args.n c.loop-column.column (omega arith) (omega arith) in
+    simp length-append (omega (arith, left))
 
 pub slice_bounds-put_column-end : goal.slice_bounds-put_column-end
-slice_bounds-put_column-end c = rw (take_at _ _ _ (left c.before.before)) (sym (left c.before.before))
+slice_bounds-put_column-end c =
+    let left = c.solve.auto.x ∙ lent_length c.args.n c.loop-column.column (omega arith) (omega arith) in
+    rw (take_at _ _ _ left) (sym left)
 
 pub put_column-requires : goal.put_column-requires
-put_column-requires c = rw (take_at _ _ _ (left c.before.before)) (omega arith, omega arith, omega (arith, left c.before.before))
+put_column-requires c =
+    let left = c.solve.auto.x ∙ lent_length c.args.n c.loop-column.column (omega arith) (omega arith) in
+    rw (take_at _ _ _ left) (omega arith, omega arith, omega (arith, left))
 
 pub loop-column-preserved : goal.loop-column-preserved
 unfolding columns_to
 loop-column-preserved c =
-    let loop = c.loop-column in (
+    let loop = c.loop-column in
+    let left = c.solve.auto.x ∙ lent_length c.args.n c.loop-column.column (omega arith) (omega arith) in (
       omega arith,
       omega arith,
       rw (
         add-one loop.column,
         ← loop.invariant.2,
         c.put_column.ensures,
-        take_at _ _ _ (left c.before.before.before.before.before),
+        take_at _ _ _ left,
         c.solve.ensures,
-        lent c.before.before.before.before.before.before.before.before,
+        lent c.args.n loop.column (omega arith) (omega arith),
       ),
     )
 

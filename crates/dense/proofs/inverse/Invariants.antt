@@ -1,15 +1,9 @@
 -- `dense::inverse` meets its contract. The invariant: m holds the solutions of the unit vectors below `column` in its columns, and keeps its length.
 -- Each is solved in the first n of 32 entries (`unit-part`). The measure is what is left of n. Assumes nothing.
-use borrow.Author.Rules.{rules}
-use mathlib.Core.Path.{◌≡◌, refl, sym, ap, ◌∙◌}
-use Prim.Native.Nat.{ℕ, ◌≤◌, ◌-◌}
-use native.Mathlib.Numerals.{add-one}
-use native.Mathlib.Omega.{arith}
-use lib.ListN.{length, take, set, replicate, length-append}
-use lib.Seq.{take_at}
-use Rattle.binary64.specs.Steps.{nought, one}
+use mathlib.Core.Path.{◌≡◌}
+use Prim.Native.Nat.{◌≤◌, ◌-◌}
+use lib.ListN.{length}
 use Rattle.dense.specs.Inverse.{columns_to}
-use Rattle.dense.proofs.Units.{unit, unit-part, unit-length}
 use Rattle.dense.proofs.inverse.Given as goal
 
 abbrev pub invariant-loop-column : goal.invariant-loop-column

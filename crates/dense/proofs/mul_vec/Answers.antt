@@ -1,11 +1,10 @@
 -- `dense::mul_vec` meets its contract. The invariant: y holds the product in its rows below `row`, and keeps its length. The
 -- measure is what is left of n. Assumes nothing.
 use mathlib.Core.Path.{◌≡◌, refl}
-use Prim.Native.Nat.{◌≤◌, ◌-◌}
 use native.Mathlib.Nat.{mul-one, zero-add}
 use native.Mathlib.Numerals.{add-one}
 use native.Mathlib.Omega.{arith}
-use lib.ListN.{length, length-set}
+use lib.ListN.{length-set}
 use Rattle.dense.specs.Entries.{mul_vec_to}
 use Rattle.dense.proofs.Places.{start, place}
 use Rattle.dense.proofs.mul_vec.Goals as goal

@@ -1,13 +1,9 @@
 -- `dense::mul_vec` meets its contract. The invariant: y holds the product in its rows below `row`, and keeps its length. The
 -- measure is what is left of n. Assumes nothing.
-use mathlib.Core.Path.{◌≡◌, refl}
+use mathlib.Core.Path.{◌≡◌}
 use Prim.Native.Nat.{◌≤◌, ◌-◌}
-use native.Mathlib.Nat.{mul-one, zero-add}
-use native.Mathlib.Numerals.{add-one}
-use native.Mathlib.Omega.{arith}
-use lib.ListN.{length, length-set}
+use lib.ListN.{length}
 use Rattle.dense.specs.Entries.{mul_vec_to}
-use Rattle.dense.proofs.Places.{start, place}
 use Rattle.dense.proofs.mul_vec.Given as goal
 
 abbrev pub invariant-loop-row : goal.invariant-loop-row

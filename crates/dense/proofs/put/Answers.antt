@@ -1,6 +1,4 @@
 -- `dense::put` meets its contract. The one fact behind its needs is `place`, that the entry lies in the matrix. Assumes nothing.
-use borrow.Author.Rules.{rules}
-use mathlib.Core.Path.{refl}
 use native.Mathlib.Omega.{arith}
 use Prim.Native.Nat.{◌+◌, ◌*◌, ◌<◌}
 use lib.ListN.{length}

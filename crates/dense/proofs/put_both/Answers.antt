@@ -1,5 +1,4 @@
 -- `dense::put_both` meets its contract. It is what the second `put` ensures of what the first ensures. Assumes nothing.
-use borrow.Author.Rules.{rules}
 use Rattle.dense.proofs.put_both.Goals as goal
 
 pub returns : goal.returns

@@ -1,10 +1,8 @@
 -- `dense::put_column` meets its contract. The invariant: m holds x in the column's rows below `row`, and keeps its length. The measure is what is
 -- left of n. Assumes nothing.
 use mathlib.Core.Path.{◌≡◌, refl}
-use Prim.Native.Nat.{◌≤◌, ◌-◌}
 use native.Mathlib.Numerals.{add-one}
 use native.Mathlib.Omega.{arith}
-use lib.ListN.{length}
 use Rattle.dense.specs.Inverse.{put_column_to}
 use Rattle.dense.proofs.put_column.Goals as goal
 

@@ -1,5 +1,4 @@
 -- `dense::solve` meets its contract. It is what `backward` ensures of what `forward` ensures. Assumes nothing.
-use borrow.Author.Rules.{rules}
 use Rattle.dense.proofs.solve.Goals as goal
 
 pub returns : goal.returns

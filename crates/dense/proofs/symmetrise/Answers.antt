@@ -1,10 +1,8 @@
 -- `dense::symmetrise` meets its contract. The invariant: the rows below `row` are symmetrised, and m keeps its length. The measure is what is left of
 -- n. Assumes nothing.
 use mathlib.Core.Path.{◌≡◌, refl}
-use Prim.Native.Nat.{◌≤◌, ◌-◌}
 use native.Mathlib.Numerals.{add-one}
 use native.Mathlib.Omega.{arith}
-use lib.ListN.{length}
 use Rattle.dense.specs.Inverse.{symmetrise_to}
 use Rattle.dense.proofs.symmetrise.Goals as goal
 

@@ -1,10 +1,9 @@
 -- `dense::symmetrise_row` meets its contract. The invariant: m holds the means of the columns from row + 1 to below `column`, and keeps its length.
 -- The measure is what is left of n. Assumes nothing.
 use mathlib.Core.Path.{◌≡◌, refl}
-use Prim.Native.Nat.{suc, ◌≤◌, ◌+◌, ◌-◌}
+use Prim.Native.Nat.{suc, ◌+◌, ◌-◌}
 use native.Mathlib.Nat.{sub_self, add-sub_of_le}
 use native.Mathlib.Omega.{arith}
-use lib.ListN.{length}
 use Rattle.dense.specs.Inverse.{symmetrise_row_to}
 use Rattle.dense.proofs.symmetrise_row.Goals as goal
 

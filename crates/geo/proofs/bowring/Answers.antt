@@ -1,5 +1,4 @@
 -- `geo::bowring` meets its contract, call by call. Assumes nothing.
-use Rattle.std.proofs.Common.{rules}
 use Rattle.geo.specs.Geo.{bowring}
 use Rattle.geo.proofs.Constants.{eccentricity}
 use Rattle.geo.proofs.bowring.Goals as goal

@@ -1,5 +1,4 @@
 -- `geo::enu_basis` meets its contract, call by call. Assumes nothing.
-use Rattle.std.proofs.Common.{rules}
 use Rattle.geo.specs.Geo.{enu_basis}
 use Rattle.geo.proofs.enu_basis.Goals as goal
 

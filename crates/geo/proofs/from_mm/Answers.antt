@@ -1,5 +1,5 @@
 -- `geo::from_mm` meets its contract: an element is an i64, so it comes back from its bits (`element`). Assumes nothing.
-use Rattle.std.proofs.Common.{◌≡◌, get_or, ℤ, pos, ap, ◌∙◌, w64, SFits, to_z, of_z, rules}
+use Rattle.std.proofs.Common.{◌≡◌, get_or, ℤ, pos, ap, ◌∙◌, w64, SFits, to_z, of_z}
 use borrow.Author.Rules.{sfits_of}
 use lib.Ieee.{Float}
 use mir.ValLaws.{to_z-of_z}
@@ -13,7 +13,7 @@ element x e h = e ∙ ap metres (to_z-of_z w64 x h)
 pub returns : goal.returns
 unfolding from_mm
 returns c =
-    let mm = c.args.t1 in
+    let mm = c.args.mm in
     rw (
       element (get_or mm 0 (pos 0)) c.metres.ensures (sfits_of c.metres-arg-1.given),
       element (get_or mm 1 (pos 0)) c.metres-2.ensures (sfits_of c.metres-arg-2-1.given),

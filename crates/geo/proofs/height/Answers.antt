@@ -1,5 +1,4 @@
 -- `geo::height` meets its contract: each return is one side of the definition's test. Assumes nothing.
-use Rattle.std.proofs.Common.{rules}
 use Rattle.geo.specs.Geo.{height}
 use Rattle.geo.proofs.Constants.{eccentricity, nano}
 use Rattle.geo.proofs.height.Goals as goal

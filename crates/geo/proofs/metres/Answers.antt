@@ -1,5 +1,5 @@
 -- `geo::metres` meets its contract: the cast's bits hold the number itself, which is an i64 (`to_z-of_z`). Assumes nothing.
-use Rattle.std.proofs.Common.{w64, rules}
+use Rattle.std.proofs.Common.{w64}
 use mir.ValLaws.{to_z-of_z}
 use Rattle.geo.specs.Geo.{metres}
 use Rattle.geo.proofs.Constants.{thousand}

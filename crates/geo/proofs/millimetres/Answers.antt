@@ -1,6 +1,6 @@
 -- `geo::millimetres` meets its contract. The two tests are what the truncation asks for, and beyond them the cast stops at the ends of its range
 -- (`cast-most`, `cast-least`, `cast-nan`). Assumes nothing.
-use Rattle.std.proofs.Common.{T, sym, ap, ◌∙◌, subst, rules}
+use Rattle.std.proofs.Common.{T, sym, ap, ◌∙◌, subst}
 use lib.Ieee.{neg, to_signed, of_bits}
 use Rattle.geo.specs.Geo.{millimetres}
 use Rattle.geo.proofs.Cast.{held, cast-most, cast-least, cast-nan}
@@ -10,9 +10,9 @@ use Rattle.geo.proofs.millimetres.Goals as goal
 pub truncating_f64_to_i64-requires : goal.truncating_f64_to_i64-requires
 unfolding of_bits neg
 truncating_f64_to_i64-requires c = record {
-      lower_bound = subst T (sym c.if-mm.true) tt;
-      upper_bound = subst T (sym c.if-mm-2.true) tt;
-    }
+  lower_bound = subst T (sym c.if-mm.true) tt;
+  upper_bound = subst T (sym c.if-mm-2.true) tt;
+}
 
 pub returns-then-mm-2 : goal.returns-then-mm-2
 unfolding millimetres

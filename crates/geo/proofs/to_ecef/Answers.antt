@@ -1,5 +1,4 @@
 -- `geo::to_ecef` meets its contract, call by call. Assumes nothing.
-use Rattle.std.proofs.Common.{rules}
 use Rattle.geo.specs.Geo.{to_ecef}
 use Rattle.geo.proofs.Constants.{eccentricity}
 use Rattle.geo.proofs.to_ecef.Goals as goal

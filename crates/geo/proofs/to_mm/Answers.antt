@@ -1,5 +1,4 @@
 -- `geo::to_mm` meets its contract: what `millimetres` gives is an i64, so it comes back from its bits (`held`). Assumes nothing.
-use Rattle.std.proofs.Common.{rules}
 use Rattle.geo.specs.Geo.{millimetres, to_mm}
 use Rattle.geo.proofs.Cast.{held}
 use Rattle.geo.proofs.to_mm.Goals as goal

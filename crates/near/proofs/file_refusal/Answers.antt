@@ -1,6 +1,5 @@
 -- `near::file_refusal` meets its contract. Each return is an end of the definition. Assumes nothing.
 use Rattle.std.proofs.Common.{sym, ◌∙◌, rules}
-use borrow.Author.Tests.{not-true, not-false}
 use Rattle.near.proofs.Refusing.{torn, malformed, sound}
 use Rattle.near.proofs.file_refusal.Goals as goal
 
@@ -9,8 +8,8 @@ returns-then-file-ne0 c = torn _ c.if-file-ne0.true
 
 pub returns-then-not-all_readable : goal.returns-then-not-all_readable
 returns-then-not-all_readable c =
-    malformed _ c.if-file-ne0.false (sym c.all_readable.ensures ∙ not-true c.all_readable.result c.if-not-all_readable.true)
+    malformed _ c.if-file-ne0.false (sym c.all_readable.ensures ∙ c.if-not-all_readable.true)
 
 pub returns : goal.returns
 returns c =
-    sound _ c.if-file-ne0.false (sym c.all_readable.ensures ∙ not-false c.all_readable.result c.if-not-all_readable.false)
+    sound _ c.if-file-ne0.false (sym c.all_readable.ensures ∙ c.if-not-all_readable.false)

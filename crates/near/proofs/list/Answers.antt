@@ -5,6 +5,7 @@ use Rattle.near.specs.Near.{within}
 use Rattle.near.proofs.Records.{there}
 use Rattle.near.proofs.Listing.{Listing, begun, added, skipped, room}
 use Rattle.near.proofs.list.Goals as goal
+use Rattle.near.proofs.list.Goals.{then-near_at, else-near_at}
 
 pub loop-k-init : goal.loop-k-init
 loop-k-init c = (omega arith, begun _ _)
@@ -26,10 +27,10 @@ pub loop-k-preserved : goal.loop-k-preserved
 loop-k-preserved c =
     let at = c.loop-k in (
       omega arith,
-      ⊎_elim
-          (λ w. added _ _ at.k at.count at.places (sym c.near_at.ensures ∙ w.0.taken) w.2 w.1 at.invariant.1)
-          (λ w. skipped _ _ at.k at.count at.places (sym c.near_at.ensures ∙ w.0.left) w.2 w.1 at.invariant.1)
-          c.if-near_at.branch,
+      elim c.if-near_at.branch [
+        then-near_at w ↦ added _ _ at.k at.count at.places (sym c.near_at.ensures ∙ w.if-near_at.true) w.count-is w.places-is at.invariant.1
+        | else-near_at w ↦ skipped _ _ at.k at.count at.places (sym c.near_at.ensures ∙ w.if-near_at.false) w.count-is w.places-is at.invariant.1
+      ],
     )
 
 pub shape_of-places : goal.shape_of-places

@@ -1,6 +1,5 @@
 -- `near::query_refusal` meets its contract. Each return is an end of the definition. Assumes nothing.
 use Rattle.std.proofs.Common.{sym, ap, ◌∙◌, rules}
-use borrow.Author.Tests.{not-true, not-false}
 use Rattle.near.specs.Near.{query_refusal}
 use Rattle.near.proofs.Refusing.{refused-file, bad-query, asked}
 use Rattle.near.proofs.query_refusal.Goals as goal
@@ -11,9 +10,9 @@ returns-then-unread-ne0 c = refused-file _ _ _ c.file_refusal-unread.ensures c.i
 pub returns-then-not-good : goal.returns-then-not-good
 returns-then-not-good c =
     bad-query _ (sym c.file_refusal-unread.ensures ∙ c.if-unread-ne0.false)
-    ∙ ap (query_refusal c.args.file.now) (sym (not-true c.args.good c.if-not-good.true))
+    ∙ ap (query_refusal c.args.file.now) (sym (c.if-not-good.true))
 
 pub returns : goal.returns
 returns c =
     asked _ (sym c.file_refusal-unread.ensures ∙ c.if-unread-ne0.false)
-    ∙ ap (query_refusal c.args.file.now) (sym (not-false c.args.good c.if-not-good.false))
+    ∙ ap (query_refusal c.args.file.now) (sym (c.if-not-good.false))

@@ -8,19 +8,19 @@ use Rattle.near.proofs.step.Goals as goal
 pub returns-then-not-is_fix : goal.returns-then-not-is_fix
 unfolding step
 returns-then-not-is_fix c =
-    rw (← c.is_fix.ensures, not-true c.is_fix.result c.if-not-is_fix.true)
+    rw (← c.is_fix.ensures, c.if-not-is_fix.true)
 
 pub returns-then-not-held : goal.returns-then-not-held
 returns-then-not-held c =
     first _ _ _ _ c.args.held
-    (sym c.is_fix.ensures ∙ not-false c.is_fix.result c.if-not-is_fix.false)
+    (sym c.is_fix.ensures ∙ c.if-not-is_fix.false)
     c.distance-d.ensures
     (not-true _ c.if-not-held.true)
 
 pub returns-then-d-held : goal.returns-then-d-held
 returns-then-d-held c =
     closer-one _ _ _ _ c.args.held
-    (sym c.is_fix.ensures ∙ not-false c.is_fix.result c.if-not-is_fix.false)
+    (sym c.is_fix.ensures ∙ c.if-not-is_fix.false)
     c.distance-d.ensures
     (not-false _ c.if-not-held.false)
     c.if-d-held.true
@@ -28,7 +28,7 @@ returns-then-d-held c =
 pub returns : goal.returns
 returns c =
     kept _ _ _ _ c.args.held
-    (sym c.is_fix.ensures ∙ not-false c.is_fix.result c.if-not-is_fix.false)
+    (sym c.is_fix.ensures ∙ c.if-not-is_fix.false)
     c.distance-d.ensures
     (not-false _ c.if-not-held.false)
     c.if-d-held.false

@@ -1,6 +1,5 @@
 -- `patterns::row` meets its contract. The invariant: the row has the bits of those below b (`mask_of`). Assumes nothing.
 use mathlib.Core.Path.{◌≡◌, refl, sym, ap, ◌∙◌}
-use mathlib.Core.Logic.{⊎_elim}
 use Prim.Native.Nat.{ℕ, ◌+◌, ◌-◌, ◌*◌, ◌^◌, ◌%◌, ◌≤◌}
 use native.Mathlib.Omega.{arith}
 use borrow.Author.Rules.{rules}
@@ -8,6 +7,7 @@ use Rattle.sets.specs.Mask.{has, mask_of}
 use Rattle.patterns.specs.Patterns.{clash}
 use Rattle.patterns.proofs.Rows.{mask-adds, mask-skips, mask-room, row_is}
 use Rattle.patterns.proofs.row.Goals as goal
+use Rattle.patterns.proofs.row.Goals.{then-clash, else-clash}
 
 pub loop-b-init : goal.loop-b-init
 unfolding mask_of
@@ -26,10 +26,11 @@ loop-b-preserved c =
     let S = clash s.pattern s.a in
     let e = sym c.clash.ensures in (
       omega arith,
-      ⊎_elim
-          (λ w. w.1 ∙ ap (λ (x : ℕ). x + 1 * 2 ^ at.b % 2 ^ 32) at.invariant.1 ∙ mask-adds S at.b (omega arith) (e ∙ w.0.taken))
-          (λ w. w.1 ∙ at.invariant.1 ∙ mask-skips S at.b (e ∙ w.0.left))
-          c.if-clash.branch,
+      elim c.if-clash.branch [
+        | then-clash w ↦
+          w.row-is ∙ ap (λ (x : ℕ). x + 1 * 2 ^ at.b % 2 ^ 32) at.invariant.1 ∙ mask-adds S at.b (omega arith) (e ∙ w.if-clash.true)
+        | else-clash w ↦ w.row-is ∙ at.invariant.1 ∙ mask-skips S at.b (e ∙ w.if-clash.false)
+      ],
     )
 
 pub returns : goal.returns

@@ -1,10 +1,7 @@
 -- `problem::gather` meets its contract. The invariant: the first a values stand in their places. Each index is below 32 by what is asked. Assumes
 -- nothing.
-use borrow.Author.Rules.{rules}
-use mathlib.Core.Path.{◌≡◌, refl}
+use mathlib.Core.Path.{◌≡◌}
 use Prim.Native.Nat.{◌≤◌, ◌-◌}
-use native.Mathlib.Numerals.{add-one}
-use native.Mathlib.Omega.{arith}
 use Rattle.problem.specs.Gathered.{gather_to}
 use Rattle.problem.proofs.gather.Given as goal
 

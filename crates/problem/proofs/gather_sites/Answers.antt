@@ -1,8 +1,6 @@
 -- `problem::gather_sites` meets its contract. The invariant: the first a sites stand in their places. Each index is below 32 by what is asked.
 -- Assumes nothing.
-use borrow.Author.Rules.{rules}
 use mathlib.Core.Path.{◌≡◌, refl, ap₂, ◌∙◌}
-use Prim.Native.Nat.{◌≤◌, ◌-◌}
 use native.Mathlib.Numerals.{add-one}
 use native.Mathlib.Omega.{arith}
 use Rattle.problem.specs.Gathered.{put_site, sites_to}

@@ -1,11 +1,8 @@
 -- `problem::gather_sites` meets its contract. The invariant: the first a sites stand in their places. Each index is below 32 by what is asked.
 -- Assumes nothing.
-use borrow.Author.Rules.{rules}
-use mathlib.Core.Path.{◌≡◌, refl, ap₂, ◌∙◌}
+use mathlib.Core.Path.{◌≡◌}
 use Prim.Native.Nat.{◌≤◌, ◌-◌}
-use native.Mathlib.Numerals.{add-one}
-use native.Mathlib.Omega.{arith}
-use Rattle.problem.specs.Gathered.{put_site, sites_to}
+use Rattle.problem.specs.Gathered.{sites_to}
 use Rattle.problem.proofs.gather_sites.Given as goal
 
 abbrev pub invariant-loop-a : goal.invariant-loop-a

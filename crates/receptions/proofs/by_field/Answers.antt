@@ -16,11 +16,11 @@ loop-i-init c = (omega arith, (c.blank_id-last.ensures, refl))
 
 pub marked-ascending-requires : goal.marked-ascending-requires
 marked-ascending-requires c =
-    (omega arith, bits-lt (listed_at c.args.t1) c.loop-i.i c.loop-i.invariant.1.1)
+    (omega arith, bits-lt (listed_at c.args.list) c.loop-i.i c.loop-i.invariant.1.1)
 
 pub loop-i-preserved : goal.loop-i-preserved
 loop-i-preserved c =
-    let at = listed_at c.args.t1 in
+    let at = listed_at c.args.list in
     let i = c.loop-i.i in (
       omega arith,
       (

@@ -16,12 +16,12 @@ invariant-loop-i l =
     (l.i ≤ l.n)
     × ((l.last ≡ last_of (reception_at l.receptions) l.i)
     × (record {
-      l.ascending = l.ascending;
-      l.time = l.time;
+      ascending = l.ascending;
+      time = l.time;
       site_mm = l.site_mm;
-      l.z = l.z;
+      z = l.z;
       noise_m2 = l.noise_m2;
-      l.filler = l.filler;
+      filler = l.filler;
     } ≡ fields_of (reception_at l.receptions) l.i))
 
 abbrev pub decreases-loop-i : goal.decreases-loop-i

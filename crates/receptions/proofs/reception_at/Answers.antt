@@ -9,10 +9,10 @@ pub returns : goal.returns
 unfolding reception_at
 returns c =
     rw (
-      to_z-of_z w64 c.i64_at-x.result (record { sfits = c.i64_at-x.type-inv }),
-      to_z-of_z w64 c.i64_at-y.result (record { sfits = c.i64_at-y.type-inv }),
-      to_z-of_z w64 c.i64_at-z.result (record { sfits = c.i64_at-z.type-inv }),
-      to_z-of_z w64 c.i64_at.result (record { sfits = c.i64_at.type-inv }),
+      to_z-of_z w64 c.i64_at-x.result (record { sfits = c.i64_at-x.type_inv }),
+      to_z-of_z w64 c.i64_at-y.result (record { sfits = c.i64_at-y.type_inv }),
+      to_z-of_z w64 c.i64_at-z.result (record { sfits = c.i64_at-z.type_inv }),
+      to_z-of_z w64 c.i64_at.result (record { sfits = c.i64_at.type_inv }),
       c.id_at-id.ensures,
       c.i64_at-x.ensures,
       c.i64_at-y.ensures,

@@ -13,9 +13,9 @@ loop-i-init c = (omega arith, refl, refl)
 
 pub loop-i-preserved : goal.loop-i-preserved
 loop-i-preserved c =
-    let whole : length c.args.t2 ≡ 176 = search rules in
+    let whole : length c.args.bytes ≡ 176 = search rules in
     let i = c.loop-i.i in
-    let r = c.args.t2 in (
+    let r = c.args.bytes in (
       omega arith,
       rw length-set c.loop-i.invariant.1,
       ap (λ (l : List ℕ). set l i (get_or r i 0)) c.loop-i.invariant.2
@@ -27,5 +27,5 @@ shape_of-out c = c.loop-i.invariant.1
 
 pub returns : goal.returns
 returns c =
-    let whole : length c.args.t2 ≡ 176 = search rules in
-    c.loop-i.invariant.2 ∙ copy-end c.args.t2 c.args.out.now c.loop-i.i 176 (omega arith) whole
+    let whole : length c.args.bytes ≡ 176 = search rules in
+    c.loop-i.invariant.2 ∙ copy-end c.args.bytes c.args.out.now c.loop-i.i 176 (omega arith) whole

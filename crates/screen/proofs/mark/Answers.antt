@@ -1,13 +1,13 @@
 -- `screen::mark` meets its contract. The invariant: reception i and those below j are compared (`Marked`). A failing pair puts a bit into
 -- the rows of both (`marked-fails`), any other changes nothing (`marked-passes`). Assumes nothing.
 use mathlib.Core.Path.{◌≡◌}
-use mathlib.Core.Logic.{⊎_elim}
 use Prim.Native.Nat.{◌-◌, ◌≤◌}
 use native.Mathlib.Omega.{arith}
 use lib.ListN.{length, length-set}
 use borrow.Author.Rules.{rules}
 use Rattle.screen.proofs.Rows.{Marked, marked_start, marked-passes, marked-fails, marked-end}
 use Rattle.screen.proofs.mark.Goals as goal
+use Rattle.screen.proofs.mark.Goals.{then-clash, else-clash}
 
 pub loop-j-init : goal.loop-j-init
 loop-j-init c = (omega arith, c.requires.i_bound.1, marked_start c.args.times.now c.args.sites.now c.args.rows.now c.args.i c.requires.rows_value)
@@ -20,12 +20,16 @@ loop-j-preserved c =
     let fails = marked-fails s.times.now s.sites.now s.i at.j (omega arith) tested.result tested.ensures in
     let passes = marked-passes s.times.now s.sites.now s.i at.j (omega arith) tested.result tested.ensures in (
       omega arith,
-      ⊎_elim (λ w. rw (w.5, length-set, length-set) at.invariant.1) (λ w. rw w.1 at.invariant.1) c.if-clash.branch,
-      ⊎_elim
-          (λ w. rw w.5
-          (fails at.rows w.2.result w.4.result (omega arith) w.0.taken w.2.ensures.0 w.4.ensures.0 at.invariant.2))
-          (λ w. rw w.1 (passes at.rows w.0.left at.invariant.2))
-          c.if-clash.branch,
+      elim c.if-clash.branch [
+        | then-clash w ↦ rw (w.rows-is, length-set, length-set) at.invariant.1
+        | else-clash w ↦ rw w.rows-is at.invariant.1
+      ],
+      elim c.if-clash.branch [
+        | then-clash w ↦
+          rw w.rows-is
+          (fails at.rows w.joined.result w.joined-then-clash.result (omega arith) w.if-clash.true w.joined.ensures.0 w.joined-then-clash.ensures.0 at.invariant.2)
+        | else-clash w ↦ rw w.rows-is (passes at.rows w.if-clash.false at.invariant.2)
+      ],
     )
 
 pub returns : goal.returns

@@ -1,13 +1,13 @@
 -- `screen::most_clashing` meets its contract. The invariant: `worst` is the choice among those below i, `most` its number (`Best`).
 -- Assumes nothing.
 use mathlib.Core.Path.{◌≡◌, refl}
-use mathlib.Core.Logic.{⊎_elim}
 use Prim.Native.Nat.{ℕ, ◌-◌, ◌≤◌}
 use native.Mathlib.Omega.{arith}
 use lib.ListN.{get_or}
 use borrow.Author.Rules.{rules}
 use Rattle.screen.proofs.Search.{Best, best-start, best_takes, best-leaves, best-end}
 use Rattle.screen.proofs.most_clashing.Goals as goal
+use Rattle.screen.proofs.most_clashing.Goals.{then-most-count, else-most-count}
 
 pub loop-i-init : goal.loop-i-init
 loop-i-init c = (omega arith, best-start (λ (j : ℕ). get_or c.args.counts.now j 0))
@@ -17,10 +17,14 @@ loop-i-preserved c =
     let at = c.loop-i in
     let counts : ℕ → ℕ = λ j. get_or c.args.counts.now j 0 in (
       omega arith,
-      ⊎_elim
-          (λ w. rw (w.1, w.2) (best_takes counts at.i at.worst at.most (counts at.i) (omega arith) refl at.invariant.1 w.0.taken))
-          (λ w. rw (w.1, w.2) (best-leaves counts at.i at.worst at.most (counts at.i) (omega arith) refl at.invariant.1 w.0.left))
-          c.if-most-count.branch,
+      elim c.if-most-count.branch [
+        | then-most-count w ↦
+          rw (w.worst-is, w.most-is)
+          (best_takes counts at.i at.worst at.most (counts at.i) (omega arith) refl at.invariant.1 w.if-most-count.true)
+        | else-most-count w ↦
+          rw (w.worst-is, w.most-is)
+          (best-leaves counts at.i at.worst at.most (counts at.i) (omega arith) refl at.invariant.1 w.if-most-count.false)
+      ],
     )
 
 pub returns : goal.returns

@@ -51,24 +51,14 @@ returns-then-least-y c = axis-reaches _ _ _ c.if-least-y.true (omega arith)
 pub returns-then-least-z : goal.returns-then-least-z
 returns-then-least-z c = axis-reaches _ _ _ c.if-least-z.true (omega arith)
 
--- no axis spans enough
-abbrev Short : goal.Else-least-z → Type 0
-Short c =
-    let s = c.args in
-    (s.x * s.x + s.y * s.y < 2 ^ 128) × (s.x * s.x + s.y * s.y + s.z * s.z < 2 ^ 128)
-
-short : (c : goal.Else-least-z) → Short c
-short c =
-    squares-fit c.args.least c.args.x c.args.y c.args.z c.requires
-    c.if-least-x.false c.if-least-y.false c.if-least-z.false
-
 pub add-requires : goal.add-requires
-add-requires c = rw (value-of c.mul.ensures, value-of c.mul-2.ensures) (short c.before.before).0
+add-requires c = let fit = squares-fit c.args.least c.args.x c.args.y c.args.z c.requires c.if-least-x.false c.if-least-y.false c.if-least-z.false in
+    rw (value-of c.mul.ensures, value-of c.mul-2.ensures) fit.0
 
 pub add-squared-requires : goal.add-squared-requires
 add-squared-requires c =
-    rw (value-of c.add.ensures, value-of c.mul.ensures, value-of c.mul-2.ensures, value-of c.mul-3.ensures)
-    (short c.before.before.before.before).1
+    let fit = squares-fit c.args.least c.args.x c.args.y c.args.z c.requires c.if-least-x.false c.if-least-y.false c.if-least-z.false in
+    rw (value-of c.add.ensures, value-of c.mul.ensures, value-of c.mul-2.ensures, value-of c.mul-3.ensures) fit.1
 
 pub returns : goal.returns
 returns c =

@@ -2,7 +2,6 @@
 use mathlib.Core.Path.{◌≡◌}
 use native.Mathlib.Omega.{arith}
 use lib.Pow.{pow_pos, ones_lt}
-use borrow.Author.Rules.{rules}
 use Rattle.sets.proofs.Masks.{one_bit, has_first}
 use Rattle.sets.proofs.first.Goals as goal
 

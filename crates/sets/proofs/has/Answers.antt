@@ -1,6 +1,5 @@
 -- `sets::has` meets its contract: the code reads the digit that the definition names. Assumes nothing.
 use mathlib.Core.Path.{refl}
-use borrow.Author.Rules.{rules}
 use Rattle.sets.specs.Mask.{has}
 use Rattle.sets.proofs.has.Goals as goal
 

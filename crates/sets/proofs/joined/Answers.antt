@@ -1,5 +1,4 @@
 -- `sets::joined` meets its contract: an `or` with one bit adds that bit's reception (`has-joined`). Assumes nothing.
-use borrow.Author.Rules.{rules}
 use Rattle.sets.proofs.Masks.{has-joined, joined-lt}
 use Rattle.sets.proofs.joined.Goals as goal
 

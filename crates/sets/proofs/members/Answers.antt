@@ -1,10 +1,8 @@
 -- `sets::members` meets its contract. The invariant: the members below i are listed and k counts them, so that k is at most i (`count-le`), which is
 -- below 32. Assumes nothing.
-use borrow.Author.Rules.{rules}
 use mathlib.Core.Path.{◌≡◌, refl, sym, ap, ap₂, ◌∙◌}
-use mathlib.Core.Logic.{⊎_elim}
 use mathlib.Core.List.{List}
-use Prim.Native.Nat.{ℕ, suc, ◌+◌, ◌-◌, ◌≤◌, ◌<◌}
+use Prim.Native.Nat.{ℕ, suc, ◌+◌, ◌≤◌, ◌<◌}
 use native.Mathlib.Numerals.{add-one}
 use native.Mathlib.Omega.{arith}
 use lib.ListN.{set}
@@ -12,6 +10,7 @@ use Rattle.sets.specs.Sets.{Subset, count, members_to}
 use Rattle.sets.specs.Mask.{has}
 use Rattle.sets.proofs.Counting.{count-le}
 use Rattle.sets.proofs.Listed.{adds, skips}
+use Rattle.sets.proofs.members.Goals.{then-has, else-has}
 use Rattle.sets.proofs.members.Goals as goal
 
 -- the invariant of the next turn, where the index is counted by `suc`
@@ -40,15 +39,15 @@ loop-i-preserved c =
     let at = c.loop-i in
     let S = has c.args.mask in
     let index₀ = c.args.index.now in
-    ⊎_elim
-    (λ w. let step = adds S index₀ at.i (sym c.has.ensures ∙ w.0.taken) in
-    turned S index₀ at.i c.args.n (omega arith)
-    (w.2 ∙ ap (λ k. k + 1) at.invariant.1 ∙ add-one (count S at.i) ∙ sym step.0)
-    (w.1 ∙ ap₂ (λ v k. set v k at.i) at.invariant.2 at.invariant.1 ∙ sym step.1))
-    (λ w. let step = skips S index₀ at.i (sym c.has.ensures ∙ w.0.left) in
-    turned S index₀ at.i c.args.n (omega arith) (w.2 ∙ at.invariant.1 ∙ sym step.0)
-    (w.1 ∙ at.invariant.2 ∙ sym step.1))
-    c.if-has.branch
+    elim c.if-has.branch [
+      | then-has w ↦ let step = adds S index₀ at.i (sym c.has.ensures ∙ w.if-has.true) in
+          turned S index₀ at.i c.args.n (omega arith)
+          (w.k-is ∙ ap (λ k. k + 1) at.invariant.1 ∙ add-one (count S at.i) ∙ sym step.0)
+          (w.index-is ∙ ap₂ (λ v k. set v k at.i) at.invariant.2 at.invariant.1 ∙ sym step.1)
+      | else-has w ↦ let step = skips S index₀ at.i (sym c.has.ensures ∙ w.if-has.false) in
+          turned S index₀ at.i c.args.n (omega arith) (w.k-is ∙ at.invariant.1 ∙ sym step.0)
+          (w.index-is ∙ at.invariant.2 ∙ sym step.1)
+    ]
 
 pub returns : goal.returns
 returns c =

@@ -1,7 +1,6 @@
 -- `sets::without` meets its contract: an `and` with all bits but one takes that bit's reception out (`has-without`). Assumes nothing.
 use native.Mathlib.Omega.{arith}
 use lib.Bits.{and_le_l}
-use borrow.Author.Rules.{rules}
 use Rattle.sets.proofs.Masks.{has-without}
 use Rattle.sets.proofs.without.Goals as goal
 

@@ -1,6 +1,6 @@
 -- `wide::add` meets its contract: the low words' sum is below `a.lo` exactly where it wrapped, and as the whole sum is below 2 ^ 128, its high word
 -- fits, the carry counted. Assumes nothing.
-use Rattle.std.proofs.Common.{arith, rules}
+use Rattle.std.proofs.Common.{arith}
 use Rattle.wide.proofs.Words.{words, high_fits}
 use Rattle.wide.proofs.add.Goals as goal
 

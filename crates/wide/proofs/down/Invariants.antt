@@ -1,9 +1,5 @@
 -- `wide::down` meets its contract: it ends where the square is not above the value, at zero if not before. The measure is x, which falls as its
 -- square is above the value, so that x is not zero. Assumes nothing.
-use Rattle.std.proofs.Common.{◌<◌, arith, rules}
-use borrow.Author.Tests.{not-true, not-false}
-use Rattle.wide.proofs.Words.{within, above}
-use Rattle.wide.proofs.Floor.{positive}
 use Rattle.wide.proofs.down.Given as goal
 
 abbrev pub invariant-loop-value : goal.invariant-loop-value

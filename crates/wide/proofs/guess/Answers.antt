@@ -1,11 +1,11 @@
 -- `wide::guess` ends and casts nothing that a u64 does not hold: the two tests are what the cast asks. Assumes nothing.
-use Rattle.std.proofs.Common.{T, sym, subst, rules}
+use Rattle.std.proofs.Common.{T, sym, subst}
 use lib.Ieee.{of_bits, neg}
 use Rattle.wide.proofs.guess.Goals as goal
 
 pub truncating_f64_to_u64-requires : goal.truncating_f64_to_u64-requires
 unfolding of_bits neg
 truncating_f64_to_u64-requires c = record {
-      lower_bound = subst T (sym c.if-x.true) tt;
-      upper_bound = subst T (sym c.if-x-2.true) tt;
-    }
+  lower_bound = subst T (sym c.if-x.true) tt;
+  upper_bound = subst T (sym c.if-x-2.true) tt;
+}

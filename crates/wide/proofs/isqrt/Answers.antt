@@ -1,7 +1,6 @@
 -- `wide::isqrt` meets its contract. The invariant: the square of x is not above the value, so x is below 2 ^ 36. The loop ends where the next square
 -- is above the value, and only the floored root is such a number (`floored-unique`). Assumes nothing.
-use Rattle.std.proofs.Common.{◌-◌, ◌*◌, ◌^◌, ◌<◌, ◌≤◌, arith, rules}
-use Rattle.wide.specs.Held.{value_of}
+use Rattle.std.proofs.Common.{arith}
 use Rattle.wide.proofs.Words.{within, above}
 use Rattle.wide.proofs.Floor.{floored-unique, root-fits}
 use Rattle.wide.proofs.isqrt.Goals as goal

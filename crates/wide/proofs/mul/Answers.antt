@@ -1,6 +1,6 @@
 -- `wide::mul` meets its contract: a product by hand, column by column, whose carries are digits, so that each sum fits a word, and which add up to
 -- the whole (`columns`). Assumes nothing.
-use Rattle.std.proofs.Common.{arith, rules}
+use Rattle.std.proofs.Common.{arith}
 use Rattle.wide.proofs.Words.{words}
 use Rattle.wide.proofs.Digits.{columns}
 use Rattle.wide.proofs.mul.Goals as goal

@@ -9,7 +9,6 @@ use lib.IntN.{pos}
 use lib.Dec.{T, leb, le→leb}
 use lib.Pow.{pow_pos}
 use lib.Ieee.{Float, binary64, fits, neg, round, in_float, of_int, of_fields, to_bits}
-use borrow.Author.Rules.{rules}
 use borrow.Author.Tests.{le-leb, lt-leb}
 use Rattle.binary64.specs.Rounding.{half_away}
 use Rattle.binary64.proofs.Patterns.{number, is-nan, back}

@@ -1,7 +1,6 @@
 -- `binary64::square_root::above` meets its contract: the square by two digits of 26 binary digits is the square (`fold_law`), and no partial product
 -- is too large for its type (`small`). Assumes nothing.
 use native.Mathlib.Omega.{arith}
-use borrow.Author.Rules.{rules}
 use Rattle.binary64.proofs.Fold.{small, fold_law}
 use Rattle.binary64.proofs.square_root.above.Goals as goal
 

@@ -1,11 +1,6 @@
 -- `binary64::square_root::bisect` meets its contract. The invariant of its loop: the least r with m ≤ (r * r + r) / 2 ^ 52 lies above `low` and at or
 -- below `high`. Assumes nothing.
-use mathlib.Core.Path.{◌≡◌, ap}
-use Prim.Native.Nat.{ℕ, ◌+◌, ◌-◌, ◌*◌, ◌/◌, ◌^◌, ◌≤◌, ◌<◌}
-use native.Mathlib.Nat.{le-div_iff_mul-le, div-lt_iff_lt-mul}
-use native.Mathlib.Omega.{arith}
-use lib.Pow.{pow_pos}
-use Rattle.binary64.specs.Held.{Nearest}
+use Prim.Native.Nat.{◌+◌, ◌-◌, ◌*◌, ◌/◌, ◌^◌, ◌≤◌, ◌<◌}
 use Rattle.binary64.proofs.square_root.bisect.Given as goal
 
 abbrev pub invariant-loop-high : goal.invariant-loop-high

@@ -1,10 +1,7 @@
 -- `binary64::square_root::each` meets its contract. The invariant: the array has the roots below i. The measure is what is left of k. Assumes
 -- nothing.
-use mathlib.Core.Path.{◌≡◌, refl}
+use mathlib.Core.Path.{◌≡◌}
 use Prim.Native.Nat.{◌-◌, ◌≤◌}
-use native.Mathlib.Numerals.{add-one}
-use native.Mathlib.Omega.{arith}
-use borrow.Author.Rules.{rules}
 use Rattle.binary64.specs.Held.{roots_to}
 use Rattle.binary64.proofs.square_root.each.Given as goal
 

@@ -6,7 +6,6 @@ use native.Mathlib.Nat.{le-div_iff_mul-le, div-lt_iff_lt-mul}
 use native.Mathlib.Omega.{arith}
 use lib.Pow.{pow_pos}
 use lib.Bits.{bit_and, bit_or}
-use borrow.Author.Rules.{rules}
 use Rattle.binary64.specs.Held.{Nearest}
 use Rattle.binary64.proofs.Fold.{small, fold_law}
 use Rattle.binary64.proofs.BitTests.{or-le}

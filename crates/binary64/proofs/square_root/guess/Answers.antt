@@ -1,7 +1,6 @@
 -- `binary64::square_root::guess` meets its contract, which promises nothing: no sum wraps, and no bits of a not-a-number are read as a value.
 -- Assumes nothing.
 use native.Mathlib.Omega.{arith}
-use borrow.Author.Rules.{rules}
 use Rattle.binary64.proofs.Patterns.{no_nan}
 use Rattle.binary64.proofs.square_root.guess.Goals as goal
 

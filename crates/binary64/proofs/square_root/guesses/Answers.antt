@@ -1,10 +1,8 @@
 -- `binary64::square_root::guesses` meets its contract. The invariant: the array keeps its length, and its entries from k on. The measure is what is
 -- left of k. Assumes nothing.
-use mathlib.Core.Path.{◌≡◌, refl, ◌∙◌}
-use Prim.Native.Nat.{ℕ, ◌-◌, ◌≤◌}
+use mathlib.Core.Path.{refl, ◌∙◌}
 use native.Mathlib.Omega.{arith}
-use borrow.Author.Rules.{rules}
-use lib.ListN.{length, get_or, length-set}
+use lib.ListN.{length-set}
 use lib.Seq.{get_or-set_other}
 use lib.Ieee.{nan}
 use Rattle.binary64.proofs.square_root.guesses.Goals as goal

@@ -9,7 +9,6 @@ use mathlib.Core.Logic.{◌⊎◌, inl, inr}
 use lib.Dec.{eqb}
 use lib.Pow.{pow_pos}
 use lib.Ieee.{Float, nan, inf, binary64, of_fields, of_bits, to_bits}
-use borrow.Author.Rules.{rules}
 use borrow.Author.Tests.{le-leb}
 use Rattle.binary64.specs.Root.{root}
 use Rattle.binary64.proofs.Patterns.{no_nan, number, zero_by_zero, is-nan, back, bits-lt}

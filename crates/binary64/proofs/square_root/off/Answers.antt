@@ -5,7 +5,6 @@ use Prim.Native.Nat.{ℕ, ◌+◌, ◌-◌, ◌*◌, ◌/◌, ◌%◌, ◌^◌, 
 use native.Mathlib.Omega.{arith}
 use lib.Bits.{and_mask, mask_lt}
 use lib.Ieee.{binary64, of_bits}
-use borrow.Author.Rules.{rules}
 use Rattle.binary64.specs.Root.{root}
 use Rattle.binary64.specs.Held.{Nearest}
 use Rattle.binary64.proofs.Shift.{range, doubled}

@@ -3,7 +3,6 @@
 use mathlib.Core.Path.{◌≡◌, subst}
 use Prim.Native.Nat.{ℕ, ◌*◌, ◌%◌, ◌^◌, ◌≤◌, ◌<◌}
 use native.Mathlib.Omega.{arith}
-use borrow.Author.Rules.{rules}
 use Rattle.binary64.specs.Held.{Nearest}
 use Rattle.binary64.proofs.Shift.{shifted, range}
 use Rattle.binary64.proofs.RootBits.{bounds, result}

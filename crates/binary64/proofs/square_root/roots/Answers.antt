@@ -2,7 +2,6 @@
 -- (`refilled`). Assumes nothing.
 use native.Mathlib.Omega.{arith}
 use mathlib.Core.Path.{◌≡◌, ◌∙◌}
-use borrow.Author.Rules.{rules}
 use Rattle.binary64.proofs.Filled.{filled, refilled}
 use Rattle.binary64.proofs.square_root.roots.Goals as goal
 

@@ -1,7 +1,6 @@
 -- `binary64::square_root::sqrt` meets its contract: x is what its bits stand for (`back`), and the guess has the bits of the root, since `off` gave
 -- 0, or `halved` gave the root. Assumes nothing.
 use mathlib.Core.Path.{sym, ap, ◌∙◌}
-use borrow.Author.Rules.{rules}
 use Rattle.binary64.specs.Root.{root}
 use Rattle.binary64.proofs.Patterns.{number, is-nan, back}
 use Rattle.binary64.proofs.square_root.sqrt.Goals as goal

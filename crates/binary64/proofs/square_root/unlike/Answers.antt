@@ -3,7 +3,6 @@ use mathlib.Core.Path.{◌≡◌, sym, ap, ◌∙◌}
 use Prim.Native.Nat.{ℕ, ◌+◌, ◌/◌, ◌^◌, ◌≤◌, ◌<◌}
 use native.Mathlib.Omega.{arith}
 use lib.Bits.{bit_xor}
-use borrow.Author.Rules.{rules}
 use Rattle.binary64.specs.Root.{root}
 use Rattle.binary64.proofs.BitTests.{or-none, xor-none}
 use Rattle.binary64.proofs.square_root.unlike.Goals as goal

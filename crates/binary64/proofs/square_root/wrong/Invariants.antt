@@ -1,17 +1,11 @@
 -- `binary64::square_root::wrong` meets its contract. The invariant: where nothing bad was found, the entries below i are roots. The measure is what
 -- is left of k. Assumes nothing.
 use mathlib.Core.Path.{◌≡◌}
-use mathlib.Core.Logic.{inl, inr}
 use mathlib.Core.List.{List}
-use Prim.Native.Nat.{ℕ, ◌+◌, ◌-◌, ◌≤◌, ◌<◌}
-use native.Mathlib.Nat.{eq-or-lt_of_le}
-use native.Mathlib.Omega.{arith}
-use borrow.Author.Rules.{rules}
-use lib.Bits.{bit_or}
+use Prim.Native.Nat.{ℕ, ◌-◌, ◌≤◌, ◌<◌}
 use lib.ListN.{get_or}
 use lib.Ieee.{Float, nan}
 use Rattle.binary64.specs.Root.{root}
-use Rattle.binary64.proofs.BitTests.{or-none}
 use Rattle.binary64.proofs.square_root.wrong.Given as goal
 
 -- the entries of out below i are the roots of those of d

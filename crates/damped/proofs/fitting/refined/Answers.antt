@@ -21,7 +21,7 @@ run-requires c =
 
 pub returns : goal.returns
 returns c =
-    let last = (c.run.ensures.fit_value, c.run.ensures.place_value) in record {
-      fit_value = last.0 ∙ begun _ _ _ _ c.evaluated-first.ensures.value c.started-state.ensures;
-      place_value = last.1;
+    let last = c.run.ensures in record {
+      fit_value = last.fit_value ∙ begun _ _ _ _ c.evaluated-first.ensures.value c.started-state.ensures;
+      place_value = last.place_value;
     }

@@ -1,10 +1,8 @@
 -- `dense::rows::forward_rows` meets its contract. The invariant: r holds R in its rows below i and Q in the others, and keeps its
 -- length. That row i lies in r is `rows_in`. The measure is what is left of n. Assumes nothing.
 use mathlib.Core.Path.{◌≡◌, refl}
-use Prim.Native.Nat.{◌≤◌, ◌-◌}
 use native.Mathlib.Numerals.{add-one}
 use native.Mathlib.Omega.{arith}
-use lib.ListN.{length}
 use Rattle.dense.specs.Rows.{forward_rows_to}
 use Rattle.dense.proofs.Places.{rows_in}
 use Rattle.dense.proofs.rows.forward_rows.Goals as goal

@@ -1,12 +1,9 @@
 -- `dense::rows::less_row` meets its contract. The invariant: the factor times row k is taken from the row's first j entries, and
 -- r keeps its length. That an entry lies in r is `place_in`. The measure is what is left of the width. Assumes nothing.
-use mathlib.Core.Path.{◌≡◌, refl}
-use Prim.Native.Nat.{◌≤◌, ◌<◌, ◌+◌, ◌*◌, ◌-◌}
-use native.Mathlib.Numerals.{add-one}
-use native.Mathlib.Omega.{arith}
-use lib.ListN.{length, length-set}
+use mathlib.Core.Path.{◌≡◌}
+use Prim.Native.Nat.{◌≤◌, ◌-◌}
+use lib.ListN.{length}
 use Rattle.dense.specs.Rows.{less_row_to}
-use Rattle.dense.proofs.Places.{place_in}
 use Rattle.dense.proofs.rows.less_row.Given as goal
 
 abbrev pub invariant-loop-j : goal.invariant-loop-j

@@ -1,10 +1,8 @@
 -- `dense::rows::less_rows` meets its contract. The invariant: the first k rows are taken from the row, and r keeps its length.
 -- The two ways on are the two cases of the definition. The measure is what is left of i. Assumes nothing.
 use mathlib.Core.Path.{◌≡◌, refl}
-use Prim.Native.Nat.{◌≤◌, ◌-◌}
 use native.Mathlib.Numerals.{add-one}
 use native.Mathlib.Omega.{arith}
-use lib.ListN.{length}
 use Rattle.dense.specs.Rows.{less_rows_to}
 use Rattle.dense.proofs.rows.less_rows.Goals as goal
 

@@ -1,12 +1,9 @@
 -- `dense::sandwiched::mirrored` meets its contract. The invariant: m holds the rows below i and their mirrors, and keeps its
 -- length. The measure is what is left of n. Assumes nothing.
 use mathlib.Core.Path.{◌≡◌, refl}
-use Prim.Native.Nat.{◌≤◌, ◌-◌}
 use native.Mathlib.Numerals.{add-one}
 use native.Mathlib.Omega.{arith}
-use lib.ListN.{length}
 use Rattle.dense.specs.Mirrored.{mirrored_to}
-use Rattle.dense.specs.Sandwich.{product}
 use Rattle.dense.proofs.sandwiched.mirrored.Goals as goal
 
 pub loop-i-init : goal.loop-i-init

@@ -1,12 +1,10 @@
 -- `dense::sandwiched::mirrored_row` meets its contract. The invariant: m holds the row's first j entries and their mirrors, and
 -- keeps its length. The measure is what is left of the row. Assumes nothing.
 use mathlib.Core.Path.{◌≡◌, refl}
-use Prim.Native.Nat.{◌≤◌, ◌+◌, ◌-◌}
+use Prim.Native.Nat.{◌+◌}
 use native.Mathlib.Numerals.{add-one}
 use native.Mathlib.Omega.{arith}
-use lib.ListN.{length}
 use Rattle.dense.specs.Mirrored.{mirrored_row_to}
-use Rattle.dense.specs.Sandwich.{product}
 use Rattle.dense.proofs.sandwiched.mirrored_row.Goals as goal
 
 pub loop-j-init : goal.loop-j-init

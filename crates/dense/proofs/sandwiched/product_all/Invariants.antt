@@ -1,9 +1,7 @@
 -- `dense::sandwiched::product_all` meets its contract. The invariant: m holds the rows below i, and keeps its length. The measure
 -- is what is left of n. Assumes nothing.
-use mathlib.Core.Path.{◌≡◌, refl}
+use mathlib.Core.Path.{◌≡◌}
 use Prim.Native.Nat.{◌≤◌, ◌-◌}
-use native.Mathlib.Numerals.{add-one}
-use native.Mathlib.Omega.{arith}
 use lib.ListN.{length}
 use Rattle.dense.specs.Sandwich.{product_to}
 use Rattle.dense.proofs.sandwiched.product_all.Given as goal

@@ -1,10 +1,8 @@
 -- `dense::sandwiched::product_row` meets its contract. The invariant: m holds the row's first j entries, and keeps its length.
 -- The measure is what is left of n. Assumes nothing.
 use mathlib.Core.Path.{◌≡◌, refl}
-use Prim.Native.Nat.{◌≤◌, ◌-◌}
 use native.Mathlib.Numerals.{add-one}
 use native.Mathlib.Omega.{arith}
-use lib.ListN.{length}
 use Rattle.dense.specs.Sandwich.{product_row_to}
 use Rattle.dense.proofs.sandwiched.product_row.Goals as goal
 

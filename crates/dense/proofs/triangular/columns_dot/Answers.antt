@@ -1,6 +1,5 @@
 -- `dense::triangular::columns_dot` meets its contract. The places of both columns are `down` from the diagonal, and lie in the
 -- matrix (`place`). Assumes nothing.
-use borrow.Author.Rules.{rules}
 use Prim.Native.Nat.{◌+◌}
 use native.Mathlib.Omega.{arith}
 use Rattle.dense.proofs.Places.{start, place, down}

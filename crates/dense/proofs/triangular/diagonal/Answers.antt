@@ -1,10 +1,9 @@
 -- `dense::triangular::diagonal` meets its contract. The invariant: d holds the first i entries, and keeps its length. The measure
 -- is what is left of n. Assumes nothing.
 use mathlib.Core.Path.{◌≡◌, refl}
-use Prim.Native.Nat.{◌≤◌, ◌-◌}
 use native.Mathlib.Numerals.{add-one}
 use native.Mathlib.Omega.{arith}
-use lib.ListN.{length, length-set}
+use lib.ListN.{length-set}
 use Rattle.dense.specs.Triangular.{diagonal_to}
 use Rattle.dense.proofs.triangular.diagonal.Goals as goal
 

@@ -1,6 +1,5 @@
 -- `dense::triangular::diagonal_in` meets its contract. It is what `diagonal` ensures of what `lower_inverse` ensures. Assumes
 -- nothing.
-use borrow.Author.Rules.{rules}
 use Rattle.dense.proofs.triangular.diagonal_in.Goals as goal
 
 pub returns : goal.returns

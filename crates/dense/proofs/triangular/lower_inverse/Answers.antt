@@ -1,10 +1,8 @@
 -- `dense::triangular::lower_inverse` meets its contract. The invariant: inv holds the rows below i, and keeps its length. The
 -- measure is what is left of n. Assumes nothing.
 use mathlib.Core.Path.{◌≡◌, refl}
-use Prim.Native.Nat.{◌≤◌, ◌-◌}
 use native.Mathlib.Numerals.{add-one}
 use native.Mathlib.Omega.{arith}
-use lib.ListN.{length}
 use Rattle.dense.specs.Triangular.{lower_inverse_to}
 use Rattle.dense.proofs.triangular.lower_inverse.Goals as goal
 

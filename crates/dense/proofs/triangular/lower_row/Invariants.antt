@@ -1,12 +1,9 @@
 -- `dense::triangular::lower_row` meets its contract. The invariant: inv holds the row's first j entries, and keeps its length.
 -- The factor's entries lie `along` its row, those of inv `down` its column. The measure is what is left of i. Assumes nothing.
-use mathlib.Core.Path.{◌≡◌, refl}
-use Prim.Native.Nat.{◌≤◌, ◌<◌, ◌+◌, ◌*◌, ◌-◌}
-use native.Mathlib.Numerals.{add-one}
-use native.Mathlib.Omega.{arith}
+use mathlib.Core.Path.{◌≡◌}
+use Prim.Native.Nat.{◌≤◌, ◌-◌}
 use lib.ListN.{length}
 use Rattle.dense.specs.Triangular.{lower_row_to}
-use Rattle.dense.proofs.Places.{place, along, down}
 use Rattle.dense.proofs.triangular.lower_row.Given as goal
 
 abbrev pub invariant-loop-j : goal.invariant-loop-j

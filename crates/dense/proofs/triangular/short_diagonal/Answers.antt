@@ -1,8 +1,7 @@
 -- `dense::triangular::short_diagonal` meets its contract. L⁻¹ is found in the first n * n of 64 zeros (`take-zeros`).
 -- Assumes nothing.
-use borrow.Author.Rules.{rules}
 use mathlib.Core.Path.{◌≡◌, sym, ap, ◌∙◌}
-use Prim.Native.Nat.{ℕ, ◌*◌}
+use Prim.Native.Nat.{ℕ, ◌*◌, ◌≤◌}
 use native.Mathlib.Omega.{arith}
 use lib.ListN.{length, take, replicate, length-replicate}
 use Rattle.binary64.specs.Steps.{nought}
@@ -12,27 +11,23 @@ use Rattle.dense.proofs.Units.{take-zeros}
 use Rattle.dense.proofs.triangular.short_diagonal.Goals as goal
 
 -- what is lent
-module _ (c : goal.After-slice_known-1) where
-  abbrev n : ℕ
-  n = c.before.before.args.n
+lent : (n : ℕ) → n ≤ 8 → take (n * n) (replicate 64 nought) ≡ blank n
+lent n h = take-zeros (n * n) 64 (room-in-64 n h)
 
-  lent : take (n * n) (replicate 64 nought) ≡ blank n
-  lent = take-zeros (n * n) 64 (room-in-64 n (omega arith))
-
-  lent_length : length (take (n * n) (replicate 64 nought)) ≡ n * n
-  lent_length = ap length lent ∙ length-replicate (n * n) nought
+lent_length : (n : ℕ) → n ≤ 8 → length (take (n * n) (replicate 64 nought)) ≡ n * n
+lent_length n h = ap length (lent n h) ∙ length-replicate (n * n) nought
 
 pub overflow_mul-size : goal.overflow_mul-size
-overflow_mul-size c = omega (arith, room-in-64 (n c) (omega arith))
+overflow_mul-size c = omega (arith, room-in-64 c.args.n (omega arith))
 
 pub slice_bounds-inv-end : goal.slice_bounds-inv-end
-slice_bounds-inv-end c = omega (arith, room-in-64 (n c) (omega arith))
+slice_bounds-inv-end c = omega (arith, room-in-64 c.args.n (omega arith))
 
 pub slice_bounds-diagonal_in-end : goal.slice_bounds-diagonal_in-end
-slice_bounds-diagonal_in-end c = sym (lent_length c.before)
+slice_bounds-diagonal_in-end c = sym (lent_length c.args.n (omega arith))
 
 pub diagonal_in-requires : goal.diagonal_in-requires
-diagonal_in-requires c = omega (arith, lent_length c.before.before)
+diagonal_in-requires c = omega (arith, lent_length c.args.n (omega arith))
 
 pub returns : goal.returns
-returns c = rw (c.diagonal_in.ensures, lent c.before.before.before.before.before.before)
+returns c = rw (c.diagonal_in.ensures, lent c.args.n (omega arith))

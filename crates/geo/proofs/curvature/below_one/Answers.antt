@@ -1,6 +1,6 @@
 -- `geo::curvature::below_one` meets its contract: x is what its bits stand for (`back`), and the two tests leave the bits from 1/2 up to 1. Assumes
 -- nothing.
-use Rattle.std.proofs.Common.{◌≡◌, ℕ, ◌+◌, ◌-◌, ◌*◌, ◌^◌, ◌<◌, ◌≤◌, sym, ap, ◌∙◌, arith, rules}
+use Rattle.std.proofs.Common.{◌≡◌, ℕ, ◌+◌, ◌-◌, ◌*◌, ◌^◌, ◌<◌, ◌≤◌, sym, ap, ◌∙◌, arith}
 use lib.Ieee.{Float}
 use Rattle.binary64.specs.Steps.{#}
 use Rattle.binary64.proofs.Patterns.{number, back}

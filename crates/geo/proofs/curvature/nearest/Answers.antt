@@ -1,7 +1,7 @@
 -- `geo::curvature::nearest` meets its contract: the two comparisons are those of `Nearest`, on numbers that two words hold (`square-fits`, `room`).
 -- Assumes nothing.
 use mathlib.Core.Bool.{false≢true}
-use Rattle.std.proofs.Common.{arith, rules}
+use Rattle.std.proofs.Common.{arith}
 use borrow.Author.Tests.{not-true}
 use Rattle.geo.proofs.NearOne.{square-fits, room, between}
 use Rattle.geo.proofs.curvature.nearest.Goals as goal

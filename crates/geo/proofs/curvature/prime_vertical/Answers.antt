@@ -1,5 +1,4 @@
 -- `geo::curvature::prime_vertical` meets its contract: `root_at` gives the root whatever the guess. Assumes nothing.
-use Rattle.std.proofs.Common.{rules}
 use Rattle.geo.specs.Geo.{prime_vertical}
 use Rattle.geo.proofs.Constants.{axis, eccentricity}
 use Rattle.geo.proofs.curvature.prime_vertical.Goals as goal

@@ -1,6 +1,5 @@
 -- `geo::curvature::root_at` meets its contract: where s passes the check it is the root (`root-below-one`), and elsewhere `binary64::sqrt` gives it.
 -- Assumes nothing.
-use Rattle.std.proofs.Common.{rules}
 use Rattle.geo.proofs.NearOne.{root-below-one}
 use Rattle.geo.proofs.curvature.root_at.Goals as goal
 

@@ -1,5 +1,5 @@
 -- `libm::atan::atan` meets its contract: each return is one case of the definition. Assumes nothing.
-use Rattle.std.proofs.Common.{rules, le-ltb, lt-ltb, le-leb}
+use Rattle.std.proofs.Common.{le-ltb, lt-ltb, le-leb}
 use borrow.Author.Tests.{lt-leb}
 use Rattle.libm.specs.Atan.{atan}
 use Rattle.libm.proofs.atan.atan.Goals as goal

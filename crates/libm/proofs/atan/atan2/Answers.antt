@@ -1,5 +1,5 @@
 -- `libm::atan::atan2` meets its contract: each return is one case of the definition. Assumes nothing.
-use Rattle.std.proofs.Common.{rules, eq-eqb, ne_eqb}
+use Rattle.std.proofs.Common.{eq-eqb, ne_eqb}
 use Rattle.libm.specs.Atan.{atan2}
 use Rattle.libm.proofs.atan.atan2.Goals as goal
 

@@ -1,6 +1,6 @@
 -- `libm::atan::atan_unsigned` meets its contract: each return is one case of the definition, in which `abs a` is a and a is not negative
 -- (`not_negative`). Assumes nothing.
-use Rattle.std.proofs.Common.{rules, le-ltb, lt-ltb, le-leb}
+use Rattle.std.proofs.Common.{le-ltb, lt-ltb, le-leb}
 use borrow.Author.Tests.{lt-leb}
 use Rattle.libm.specs.Words.{signed}
 use Rattle.libm.specs.Atan.{atan}

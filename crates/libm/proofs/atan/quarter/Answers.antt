@@ -1,5 +1,4 @@
 -- `libm::atan::quarter` meets its contract: each return is one case of the definition. Assumes nothing.
-use Rattle.std.proofs.Common.{rules}
 use Rattle.libm.specs.Atan.{quarter}
 use Rattle.libm.proofs.atan.quarter.Goals as goal
 

@@ -1,5 +1,4 @@
 -- `libm::atan::signs` meets its contract: each return is one case of the definition. Assumes nothing.
-use Rattle.std.proofs.Common.{rules}
 use Rattle.libm.specs.Atan.{signs}
 use Rattle.libm.proofs.atan.signs.Goals as goal
 

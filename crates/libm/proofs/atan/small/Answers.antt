@@ -1,5 +1,5 @@
 -- `libm::atan::small` meets its contract: the returns are its two cases. Assumes nothing.
-use Rattle.std.proofs.Common.{rules, le-ltb, lt-ltb}
+use Rattle.std.proofs.Common.{le-ltb, lt-ltb}
 use Rattle.libm.proofs.atan.small.Goals as goal
 
 pub returns-then-ix-lt1042284544 : goal.returns-then-ix-lt1042284544

@@ -1,5 +1,4 @@
 -- `libm::atan::whole_arc` meets its contract: the steps are the contract's. Assumes nothing.
-use Rattle.std.proofs.Common.{rules}
 use Rattle.libm.proofs.atan.whole_arc.Goals as goal
 
 pub returns : goal.returns

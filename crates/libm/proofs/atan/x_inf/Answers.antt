@@ -1,5 +1,5 @@
 -- `libm::atan::x_inf` meets its contract: each return is one case of the definition. Assumes nothing.
-use Rattle.std.proofs.Common.{rules, eq-eqb, ne_eqb}
+use Rattle.std.proofs.Common.{eq-eqb, ne_eqb}
 use Rattle.libm.specs.Atan.{x_inf}
 use Rattle.libm.proofs.atan.x_inf.Goals as goal
 

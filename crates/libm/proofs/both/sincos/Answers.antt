@@ -1,5 +1,4 @@
 -- `libm::both::sincos` meets its contract: its fields are the two numbers that `sincos_into` writes. Assumes nothing.
-use Rattle.std.proofs.Common.{rules}
 use Rattle.libm.specs.Trig.{sincos}
 use Rattle.libm.proofs.both.sincos.Goals as goal
 

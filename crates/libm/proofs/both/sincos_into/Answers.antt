@@ -1,8 +1,8 @@
 -- `libm::both::sincos_into` meets its contract: each return is one case of `sin` beside the same case of `cos`, of which the second is
 -- that of n = 1 (`quarter`), and 0 / 0 is not-a-number (`zero_by_zero`). Assumes nothing.
-use Rattle.std.proofs.Common.{rules, le-leb}
+use Rattle.std.proofs.Common.{◌∙◌, le-leb}
 use borrow.Author.Tests.{lt-leb}
-use Rattle.libm.specs.Trig.{sin, cos, quadrant, sincos}
+use Rattle.libm.specs.Trig.{sin, cos, quadrant}
 use Rattle.binary64.proofs.Patterns.{zero_by_zero}
 use Rattle.libm.proofs.Limit.{by-limit}
 use Rattle.libm.proofs.Quarter.{quarter}
@@ -22,7 +22,7 @@ returns-then-ix-ne1073291771 c =
     let e = c.high-ix.ensures in
     let q = quarter _ c.well_formed.0.1 c.if-x.true (rw (← e) c.if-ix-le1072243195.false)
     (rw (← e) c.if-ix-lt1073928572.true)
-    (rw (← e) c.if-ix-ne1073291771.true) in
+    (λ h. c.if-ix-ne1073291771.true (e ∙ h)) in
     rw (q.0, q.1) (rw (← c.split-y.ensures, ← c.k_cos-s.ensures, ← c.k_sin-c.ensures))
 
 pub returns-then-t : goal.returns-then-t

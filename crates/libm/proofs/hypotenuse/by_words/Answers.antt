@@ -1,5 +1,5 @@
 -- `libm::hypotenuse::by_words` meets its contract: the returns are the two cases of the definition, and the test orders the words. Assumes nothing.
-use Rattle.std.proofs.Common.{arith, rules, le-ltb, lt-ltb}
+use Rattle.std.proofs.Common.{le-ltb, lt-ltb}
 use Rattle.libm.specs.Hypotenuse.{hypot}
 use Rattle.libm.proofs.hypotenuse.by_words.Goals as goal
 

@@ -1,6 +1,6 @@
 -- `libm::hypotenuse::hypot` meets its contract: where the sum of squares is at least 0, x and y are numbers (`first-number`, `second-number`), whose
 -- bits below the sign have their magnitudes and high words (`magnitude`, `high_word`). Assumes nothing.
-use Rattle.std.proofs.Common.{◌≡◌, ◌/◌, ◌%◌, ◌^◌, true, cond, ltb, refl, rules}
+use Rattle.std.proofs.Common.{◌≡◌, ◌/◌, ◌%◌, ◌^◌, true, cond, ltb}
 use lib.Ieee.{Float, binary64, fits, to_bits}
 use Rattle.binary64.specs.Steps.{#}
 use Rattle.binary64.proofs.Patterns.{le-number}

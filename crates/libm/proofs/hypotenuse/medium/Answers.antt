@@ -1,6 +1,5 @@
 -- `libm::hypotenuse::medium` meets its contract: the returns are the two cases of the definition, and the words stay up to an infinity's. Assumes
 -- nothing.
-use Rattle.std.proofs.Common.{arith, rules}
 use Rattle.libm.specs.Hypotenuse.{medium}
 use Rattle.libm.proofs.hypotenuse.medium.Goals as goal
 

@@ -1,6 +1,6 @@
 -- `libm::hypotenuse::scaled` meets its contract: each return is one case of the definition. The gap is at most 60, so both words are past 0x25800000
 -- where a's is past 0x5F300000, and stay far below an infinity's where b's is below 0x20B00000. Assumes nothing.
-use Rattle.std.proofs.Common.{arith, le-ltb, lt-ltb, le-leb}
+use Rattle.std.proofs.Common.{le-ltb, lt-ltb, le-leb}
 use borrow.Author.Tests.{lt-leb}
 use Rattle.libm.specs.Hypotenuse.{scaled}
 use Rattle.libm.proofs.hypotenuse.scaled.Goals as goal

@@ -1,6 +1,6 @@
 -- `libm::kernels::k_cos` meets its contract: each return is one case of the definition, step by step. `qx` asks for a high word from 0x3FD33333 on,
 -- which the second test shows. Assumes nothing.
-use Rattle.std.proofs.Common.{rules, le-ltb, lt-ltb}
+use Rattle.std.proofs.Common.{le-ltb, lt-ltb}
 use Rattle.libm.specs.Kernels.{k_cos}
 use Rattle.libm.proofs.kernels.k_cos.Goals as goal
 

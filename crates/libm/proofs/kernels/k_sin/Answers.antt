@@ -1,5 +1,5 @@
 -- `libm::kernels::k_sin` meets its contract: each return is one case of the definition, step by step. Assumes nothing.
-use Rattle.std.proofs.Common.{rules, le-ltb, lt-ltb, eq-eqb, ne_eqb}
+use Rattle.std.proofs.Common.{le-ltb, lt-ltb, eq-eqb, ne_eqb}
 use Rattle.libm.specs.Kernels.{k_sin}
 use Rattle.libm.proofs.kernels.k_sin.Goals as goal
 

@@ -1,5 +1,5 @@
 -- `libm::kernels::qx` meets its contract: the high words from 0x3FD33333 to 0x3FE90000 have 2 to spare in the exponent. Assumes nothing.
-use Rattle.std.proofs.Common.{arith, le-ltb, lt-ltb}
+use Rattle.std.proofs.Common.{le-ltb, lt-ltb}
 use Rattle.libm.specs.Kernels.{qx}
 use Rattle.libm.proofs.kernels.qx.Goals as goal
 

@@ -1,5 +1,5 @@
 -- `libm::rem_pio2::lost` meets its contract: the returns are the difference, which stops at 0. Assumes nothing.
-use Rattle.std.proofs.Common.{arith, rules}
+use Rattle.std.proofs.Common.{arith}
 use Rattle.libm.specs.RemPio2.{lost}
 use Rattle.libm.proofs.rem_pio2.lost.Goals as goal
 

@@ -1,5 +1,5 @@
 -- `libm::rem_pio2::medium` meets its contract: each return is one case of the definition. Assumes nothing.
-use Rattle.std.proofs.Common.{rules, eq-eqb, ne_eqb, le-leb}
+use Rattle.std.proofs.Common.{eq-eqb, ne_eqb, le-leb}
 use borrow.Author.Tests.{lt-leb}
 use Rattle.libm.specs.RemPio2.{medium}
 use Rattle.libm.proofs.rem_pio2.medium.Goals as goal

@@ -1,5 +1,5 @@
 -- `libm::rem_pio2::rem_pio2` meets its contract: each return is one case of the definition. Assumes nothing.
-use Rattle.std.proofs.Common.{rules, le-ltb, lt-ltb, eq-eqb, ne_eqb}
+use Rattle.std.proofs.Common.{le-ltb, lt-ltb, eq-eqb, ne_eqb}
 use Rattle.libm.specs.RemPio2.{rem_pio2}
 use Rattle.libm.proofs.rem_pio2.rem_pio2.Goals as goal
 

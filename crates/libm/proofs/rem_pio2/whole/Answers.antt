@@ -8,9 +8,9 @@ use Rattle.libm.proofs.rem_pio2.whole.Goals as goal
 pub truncating_f64_to_u64-requires : goal.truncating_f64_to_u64-requires
 unfolding of_bits neg
 truncating_f64_to_u64-requires c = record {
-      lower_bound = subst T (sym c.if-q.true) tt;
-      upper_bound = subst T (sym c.if-q-2.true) tt;
-    }
+  lower_bound = subst T (sym c.if-q.true) tt;
+  upper_bound = subst T (sym c.if-q-2.true) tt;
+}
 
 pub returns-then-q-2 : goal.returns-then-q-2
 returns-then-q-2 c = c.truncating_f64_to_u64.ensures

@@ -1,5 +1,5 @@
 -- `libm::trig::cos` meets its contract: each return is one case of the definition, and 0 / 0 is not-a-number (`zero_by_zero`). Assumes nothing.
-use Rattle.std.proofs.Common.{rules, le-leb}
+use Rattle.std.proofs.Common.{le-leb}
 use borrow.Author.Tests.{lt-leb}
 use Rattle.libm.specs.Trig.{cos}
 use Rattle.binary64.proofs.Patterns.{zero_by_zero}

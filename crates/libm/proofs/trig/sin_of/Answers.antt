@@ -1,5 +1,5 @@
 -- `libm::trig::sin_of` meets its contract: each return is one case of the definition. Assumes nothing.
-use Rattle.std.proofs.Common.{rules, eq-eqb, ne_eqb}
+use Rattle.std.proofs.Common.{eq-eqb, ne_eqb}
 use Rattle.libm.specs.Words.{switch}
 use Rattle.libm.specs.Trig.{quadrant}
 use Rattle.libm.proofs.trig.sin_of.Goals as goal

@@ -1,5 +1,4 @@
 -- `libm::words::signed` meets its contract: both returns are the two cases of the definition. Assumes nothing.
-use Rattle.std.proofs.Common.{rules}
 use Rattle.libm.specs.Words.{signed}
 use Rattle.libm.proofs.words.signed.Goals as goal
 

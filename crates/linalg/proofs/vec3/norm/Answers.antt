@@ -1,5 +1,4 @@
 -- `linalg::vec3::norm` meets its contract: it is the root that `sqrt` ensures, of the product that `dot` ensures. Assumes nothing.
-use borrow.Author.Rules.{rules}
 use Rattle.linalg.proofs.vec3.norm.Goals as goal
 
 pub returns : goal.returns

@@ -12,8 +12,8 @@ loop-k-init c = (omega arith, λ j h. absurd (omega (arith, h)))
 
 pub returns-then-x-y : goal.returns-then-x-y
 returns-then-x-y c =
-    let a = c.args.t1 in
-    let b = c.args.t2 in
+    let a = c.args.a in
+    let b = c.args.b in
     let k = c.loop-k.k in
     let below = c.loop-k-test.true in
     c.compare_byte.ensures
@@ -22,10 +22,10 @@ returns-then-x-y c =
 
 pub loop-k-preserved : goal.loop-k-preserved
 loop-k-preserved c =
-    (omega arith, agree-next c.args.t1 c.args.t2 c.loop-k.k c.loop-k.invariant.1 c.if-x-y.false)
+    (omega arith, agree-next c.args.a c.args.b c.loop-k.k c.loop-k.invariant.1 c.if-x-y.false)
 
 pub returns : goal.returns
 returns c =
     let all = c.well_formed.0.1.0.1 in
-    bytes-alike c.args.t1 c.args.t2 (all ∙ sym c.well_formed.1.0.1.0.1)
+    bytes-alike c.args.a c.args.b (all ∙ sym c.well_formed.1.0.1.0.1)
     (λ j h. c.loop-k.invariant.1 j (omega (arith, h, all)))

@@ -12,17 +12,17 @@ returns-in-None c = record {
 pub returns-in-Barometric : goal.returns-in-Barometric
 returns-in-Barometric c =
     let at = c.args in
-    let put = (c.put_residual.ensures.r_after, c.put_residual.ensures.value) in
-    let h = barometric at.altitude _ at.geodetic at.k at.r.now _ c.in-Barometric.is put.0 in record {
+    let put = c.put_residual.ensures in
+    let h = barometric at.altitude _ at.geodetic at.k at.r.now _ c.in-Barometric.is put.r_after in record {
       r_after = h.0;
-      value = rw h.1 at put.1;
+      value = rw h.1 at put.value;
     }
 
 pub returns-in-Gnss : goal.returns-in-Gnss
 returns-in-Gnss c =
     let at = c.args in
-    let put = (c.put_residual-in-Gnss.ensures.r_after, c.put_residual-in-Gnss.ensures.value) in
-    let h = gnss at.altitude _ at.geodetic at.k at.r.now _ c.in-Gnss.is put.0 in record {
+    let put = c.put_residual-in-Gnss.ensures in
+    let h = gnss at.altitude _ at.geodetic at.k at.r.now _ c.in-Gnss.is put.r_after in record {
       r_after = h.0;
-      value = rw h.1 at put.1;
+      value = rw h.1 at put.value;
     }

@@ -21,8 +21,8 @@ unfolding fill_to raw_row residual
 loop-i-preserved c =
     let l = c.loop-i in
     let s = c.args in
-    let f = range_at s.sites.now s.t4 in
-    let far : nth c.ranges_of.new.1.1.1.1.0 l.i ≡ f l.i =
+    let f = range_at s.sites.now s.p in
+    let far : nth c.ranges_of.new.ranges l.i ≡ f l.i =
     ap (λ (y : List Float). nth y l.i) c.ranges_of.ensures.ranges_after
     ∙ fill-at f s.ranges.now s.k l.i (omega (arith, c.requires.2)) (omega arith) in
     (omega arith, rw (add-one, ← l.invariant.1, far))

@@ -22,12 +22,12 @@ unfolding fill_to
 loop-i-preserved c =
     let v = c.loop-i.invariant in
     let row = c.slope_row-row.ensures in
-    let put = (c.put_slopes.ensures.a_after, (c.put_slopes.ensures.b_after, (c.put_slopes.ensures.c_after, c.put_slopes.ensures.d_after))) in (
+    let put = c.put_slopes.ensures in (
       omega arith,
-      rw (add-one, ← v.1, put.0, row),
-      rw (add-one, ← v.2, put.1.0, row),
-      rw (add-one, ← v.3, put.1.1.0, row),
-      rw (add-one, ← v.4, put.1.1.1, row),
+      rw (add-one, ← v.1, put.a_after, row),
+      rw (add-one, ← v.2, put.b_after, row),
+      rw (add-one, ← v.3, put.c_after, row),
+      rw (add-one, ← v.4, put.d_after, row),
     )
 
 pub returns : goal.returns

@@ -19,10 +19,10 @@ completed-requires c = record {
 pub returns : goal.returns
 returns c =
     let P = chosen c.args.k c.args.sites.now c.args.z.now c.args.l.now c.args.altitude in
-    let first = (c.residuals-part.ensures.r_len, (c.residuals-part.ensures.squared_len, (c.residuals-part.ensures.ranges_len, c.residuals-part.ensures.value))) in
+    let first = c.residuals-part.ensures in
     let pushed = c.push_height-cost.ensures.r_after in
-    let last = (c.completed.ensures.value, c.completed.ensures.slopes_2) in record {
-      value = completes P c.args.p _ _ (last.0 c.args.z.now)
-          (residuals-joined P c.args.p _ c.requires.k_bound.1 c.args.r.now first.0.1 pushed c.requires.k_bound.0 c.requires.scratch.0.0);
-      scratch_2 = ((height-room c.args.altitude c.args.geodetic c.args.k _ _ first.0.0 pushed, first.1.0, first.1.1.0.0), last.1);
+    let last = c.completed.ensures in record {
+      value = completes P c.args.p _ _ (last.value c.args.z.now)
+          (residuals-joined P c.args.p _ c.requires.k_bound.1 c.args.r.now first.r_len.1 pushed c.requires.k_bound.0 c.requires.scratch.0.0);
+      scratch_2 = ((height-room c.args.altitude c.args.geodetic c.args.k _ _ first.r_len.0 pushed, first.squared_len, first.ranges_len.0), last.slopes_2);
     }

@@ -10,11 +10,7 @@ use Rattle.whitening.proofs.Turns.{normal-row}
 use Rattle.whitening.proofs.sums.normal.Given as goal
 
 abbrev pub invariant-loop-i : goal.invariant-loop-i
-invariant-loop-i l = (l.i ≤ l.count) × (record {
-  l.information = l.information;
-  l.gradient = l.gradient;
-  l.cost = l.cost;
-} ≡ normal_to (rows l.count l.r l.a l.b l.c l.d) l.i)
+invariant-loop-i l = (l.i ≤ l.count) × (record { information = l.information; gradient = l.gradient; cost = l.cost; } ≡ normal_to (rows l.count l.r l.a l.b l.c l.d) l.i)
 
 abbrev pub decreases-loop-i : goal.decreases-loop-i
 decreases-loop-i l = l.count - l.i

@@ -12,11 +12,8 @@ covariance-sigma-requires c = record {
       by_index = c.requires.by_index;
     }
 
-sized : (c : goal.After-covariance-sigma) → c.covariance-sigma.result.n ≡ c.args.k
-sized c = ap (λ (m : Matrix). m.n) c.covariance-sigma.ensures
-
 pub cholesky-requires : goal.cholesky-requires
-cholesky-requires c = omega (arith, sized c.before.before.before)
+cholesky-requires c = omega (arith, ap (λ (m : Matrix). m.n) c.covariance-sigma.ensures)
 
 pub returns : goal.returns
 unfolding whitener

@@ -1,6 +1,5 @@
 -- `linalg::cholesky::Cholesky::forward_rows` meets its contract: rows and columns up to 32 have room (`few`), and the rest is
 -- what the kernel ensures. Assumes nothing.
-use borrow.Author.Rules.{rules}
 use native.Mathlib.Omega.{arith}
 use Rattle.dense.proofs.Places.{few, room}
 use Rattle.linalg.proofs.cholesky.Cholesky.forward_rows.Goals as goal

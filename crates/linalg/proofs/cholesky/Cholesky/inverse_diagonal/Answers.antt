@@ -1,6 +1,5 @@
 -- `linalg::cholesky::Cholesky::inverse_diagonal` meets its contract: a size up to 32 has room (`room`), and the rest is what the
 -- kernel ensures. Assumes nothing.
-use borrow.Author.Rules.{rules}
 use native.Mathlib.Omega.{arith}
 use Rattle.dense.proofs.Places.{room}
 use Rattle.linalg.proofs.cholesky.Cholesky.inverse_diagonal.Goals as goal

@@ -1,5 +1,4 @@
 -- `linalg::matrix::Matrix::cholesky` meets its contract: a size up to 32 has room (`room`), and the rest is what the kernel ensures. Assumes nothing.
-use borrow.Author.Rules.{rules}
 use native.Mathlib.Omega.{arith}
 use Rattle.dense.proofs.Places.{room}
 use Rattle.linalg.proofs.matrix.Matrix.cholesky.Goals as goal
