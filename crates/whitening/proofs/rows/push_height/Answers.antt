@@ -1,13 +1,12 @@
 -- `whitening::rows::push_height` meets its contract. By the kinds of altitude (`barometric`, `gnss`). Assumes nothing.
-use borrow.Author.Rules.{rules}
 use Rattle.whitening.proofs.Joined.{barometric, gnss}
 use Rattle.whitening.proofs.rows.push_height.Goals as goal
 
 pub returns-in-None : goal.returns-in-None
 returns-in-None c = record {
-      r_after = rw c.in-None.is;
-      value = rw c.in-None.is c.requires.2;
-    }
+  r_after = rw c.in-None.is;
+  value = rw c.in-None.is c.requires.2;
+}
 
 pub returns-in-Barometric : goal.returns-in-Barometric
 returns-in-Barometric c =

@@ -1,6 +1,5 @@
 -- `whitening::rows::residuals` meets its contract. The promises of `raw_residuals`, `forward` and `squares`, put together. The arrays
 -- keep their room (`room-left`, `fill-length`). Assumes nothing.
-use borrow.Author.Rules.{rules}
 use mathlib.Core.Path.{ap, ◌∙◌}
 use mathlib.Core.List.{List}
 use native.Mathlib.Omega.{arith}
@@ -34,8 +33,8 @@ returns c =
       r_len = (ap length solved ∙ room-left l f at.r.now at.k at.k ∙ pre.1, solved);
       squared_len = raws.squared_len;
       ranges_len = (
-            ap length raws.ranges_after ∙ fill-length far at.ranges.now at.k ∙ pre.3,
-            λ i h. ap (λ (y : List Float). nth y i) raws.ranges_after ∙ fill-at far at.ranges.now at.k i (omega (arith, pre.3)) h,
-          );
+        ap length raws.ranges_after ∙ fill-length far at.ranges.now at.k ∙ pre.3,
+        λ i h. ap (λ (y : List Float). nth y i) raws.ranges_after ∙ fill-at far at.ranges.now at.k i (omega (arith, pre.3)) h,
+      );
       value = c.squares.ensures;
     }

@@ -1,8 +1,7 @@
 -- `whitening::slopes::forward4` meets its contract. The invariant: each array is solved in its rows below i, and the others hold what they brought
 -- (`forward-row`). The measure is what is left of n. Assumes nothing.
-use borrow.Author.Rules.{rules}
 use mathlib.Core.Path.{◌≡◌, refl, ◌∙◌}
-use Prim.Native.Nat.{ℕ, ◌≤◌, ◌<◌, ◌+◌, ◌*◌, ◌-◌}
+use Prim.Native.Nat.{ℕ, ◌≤◌, ◌<◌, ◌+◌, ◌*◌}
 use native.Mathlib.Omega.{arith}
 use Rattle.dense.specs.Solve.{forward_to}
 use Rattle.dense.proofs.Places.{place, room}

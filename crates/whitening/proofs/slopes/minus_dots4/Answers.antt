@@ -1,11 +1,10 @@
 -- `whitening::slopes::minus_dots4` meets its contract. The invariant: each sum has its first k products taken off. The measure is what is left of i.
 -- Assumes nothing.
-use borrow.Author.Rules.{rules}
 use mathlib.Core.Path.{◌≡◌, refl}
-use Prim.Native.Nat.{ℕ, ◌≤◌, ◌<◌, ◌+◌, ◌*◌, ◌-◌}
+use Prim.Native.Nat.{ℕ, ◌≤◌, ◌<◌, ◌+◌, ◌*◌}
 use native.Mathlib.Numerals.{add-one}
 use native.Mathlib.Omega.{arith}
-use Rattle.dense.specs.Entries.{nth, at, minus_dots}
+use Rattle.dense.specs.Entries.{minus_dots}
 use Rattle.dense.proofs.Places.{place, room}
 use Rattle.whitening.proofs.slopes.minus_dots4.Goals as goal
 

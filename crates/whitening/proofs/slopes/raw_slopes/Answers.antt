@@ -1,13 +1,9 @@
 -- `whitening::slopes::raw_slopes` meets its contract. The invariant: each array is filled below i. The range of a turn is the one lent. The
 -- measure is what is left of k. Assumes nothing.
-use borrow.Author.Rules.{rules}
 use mathlib.Core.Path.{◌≡◌, refl}
-use Prim.Native.Nat.{◌≤◌, ◌-◌}
 use native.Mathlib.Numerals.{add-one}
 use native.Mathlib.Omega.{arith}
-use lib.Ieee.{neg}
-use Rattle.binary64.specs.Steps.{one}
-use Rattle.whitening.specs.Whitened.{slope_at, fill_to}
+use Rattle.whitening.specs.Whitened.{fill_to}
 use Rattle.whitening.proofs.slopes.raw_slopes.Goals as goal
 
 pub loop-i-init : goal.loop-i-init

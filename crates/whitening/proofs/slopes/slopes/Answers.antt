@@ -1,5 +1,4 @@
 -- `whitening::slopes::slopes` meets its contract. The promises of `raw_slopes`, `forward4` and `push_up`, joined (`slopes-joined`). Assumes nothing.
-use borrow.Author.Rules.{rules}
 use Rattle.whitening.specs.Held.{chosen}
 use Rattle.whitening.proofs.Joined.{slopes-joined}
 use Rattle.whitening.proofs.slopes.slopes.Goals as goal

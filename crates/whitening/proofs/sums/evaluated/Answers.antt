@@ -1,6 +1,5 @@
 -- `whitening::sums::evaluated` meets its contract. The residuals are those of all rows (`residuals-joined`), so what `completed` makes of them is the
 -- whole (`completes`). The arrays keep their room (`height-room`). Assumes nothing.
-use borrow.Author.Rules.{rules}
 use native.Mathlib.Omega.{arith}
 use Rattle.whitening.specs.Held.{chosen}
 use Rattle.whitening.proofs.Joined.{residuals-joined, completes}
@@ -12,9 +11,9 @@ push_height-cost-requires c = (c.requires.k_bound.0, omega arith, c.residuals-pa
 
 pub completed-requires : goal.completed-requires
 completed-requires c = record {
-      k_bound = (c.requires.k_bound.0, c.residuals-part.ensures.ranges_len.1, c.requires.k_bound.1);
-      slopes = c.requires.scratch.1;
-    }
+  k_bound = (c.requires.k_bound.0, c.residuals-part.ensures.ranges_len.1, c.requires.k_bound.1);
+  slopes = c.requires.scratch.1;
+}
 
 pub returns : goal.returns
 returns c =
