@@ -75,6 +75,7 @@ problem() {
 }
 
 # need COMMAND..: the commands, and the kit's, are on the PATH, and target/ and the crates' folders can be written.
+# shellcheck disable=SC2120
 need() {
     for command in rt "$@"; do
         if ! command -v "$command" >/dev/null 2>&1; then
@@ -145,6 +146,7 @@ library() {
     [ "$crate" != mlat_solver ] || crate=mlat_solver_c
     # shellcheck disable=SC2046
     stale "target/staticlib/lib$1.a" crates.txt $(uses . "$crate") || return 0
+    # shellcheck disable=SC2119
     need
     proving . lib "$crate"
     archived . "$crate" "target/staticlib/lib$1.a"
@@ -165,6 +167,7 @@ archived() {
 program() {
     # shellcheck disable=SC2046
     stale "crates/$1/out/$1" crates.txt $(uses . "$1") || return 0
+    # shellcheck disable=SC2119
     need
     proving . run "$1"
     # rt goes by what files hold: one that only looks newer needs no proof the next time
@@ -251,6 +254,7 @@ c_names() {
     shift 3
     # shellcheck disable=SC2046
     stale "$to/target/staticlib/lib$name.a" crates.txt "$files/$name" $(uses . "$@") || return 0
+    # shellcheck disable=SC2119
     need
     for crate in "$@"; do
         proving . lib "$crate"
@@ -286,7 +290,7 @@ stale() {
 uses() {
     awk -v folder="$1" -v wanted="$*" '
         { sub(/#.*/, "") }
-        # 'NAME: DEP ..', or 'NAME staticlib: DEP ..'
+        # NAME: DEP .., or NAME staticlib: DEP ..
         match($0, /:/) { name = $1; sub(/:.*/, "", name); deps[name] = substr($0, RSTART + 1) }
         END {
             n = split(wanted, todo, " ")
@@ -299,6 +303,24 @@ uses() {
             }
         }
     ' "$1/crates.txt"
+}
+
+# copied TO FOLDER..: copies the folders, as they are named here, below TO, without what rt made of crates in their out/.
+copied() {
+    into=$1
+    shift
+    for path in "$@"; do
+        path=${path#./}
+        mkdir -p "$into/$path"
+        for entry in "$path"/*; do
+            case $entry in
+                crates/*/out) ;;
+                crates/*/*) cp -R "$entry" "$into/$entry" ;;
+                crates/*) copied "$into" "$entry" ;;
+                *) cp -R "$entry" "$into/$entry" ;;
+            esac
+        done
+    done
 }
 
 # mutants SUBJECT KEPT [NAME..]: builds each mutant of oracle/mutants_SUBJECT.txt (or those named), runs oracle/SUBJECT_replay.rs with it on the recorded cases

@@ -37,21 +37,21 @@ fn minute_of(word: u64) -> Minute {
 }
 
 // A run of fixes of a minute, if it has any.
-pub(crate) fn print_minute(minute: Minute) {
+pub(crate) fn print_minute(rt: &impl Print, minute: Minute) {
     if minute.fixes > 0 {
-        print(b"minute ");
+        print(rt, "minute ");
         if minute.below {
-            print(b"-");
+            print(rt, "-");
         }
-        print_number(minute.number);
-        print(b" fixes ");
-        print_number(minute.fixes);
-        print(b"\n");
+        print_number(rt, minute.number);
+        print(rt, " fixes ");
+        print_number(rt, minute.fixes);
+        print(rt, "\n");
     }
 }
 
 // The run with a fix more; one of another minute begins a run, and the run before is printed.
-pub(crate) fn with_fix(run: Minute, word: u64) -> Minute {
+pub(crate) fn with_fix(rt: &impl Print, run: Minute, word: u64) -> Minute {
     let now = minute_of(word);
     if now.below == run.below && now.number == run.number {
         return Minute {
@@ -60,7 +60,7 @@ pub(crate) fn with_fix(run: Minute, word: u64) -> Minute {
             fixes: std::num::wrapping_add_u64(run.fixes, 1),
         };
     }
-    print_minute(run);
+    print_minute(rt, run);
     now
 }
 
@@ -72,49 +72,49 @@ pub(crate) fn count(counts: &mut [u64; 32], answer: u32) {
 }
 
 // How many records have an answer, if any has.
-fn print_count(counts: &[u64; 32], answer: usize) {
+fn print_count(rt: &impl Print, counts: &[u64; 32], answer: usize) {
     if answer < 32 {
         let count = counts[answer];
         if count > 0 {
-            print(b"answer ");
-            print_number(answer as u64);
-            print(b" ");
-            print_name(answer as u32);
-            print(b" ");
-            print_number(count);
-            print(b"\n");
+            print(rt, "answer ");
+            print_number(rt, answer as u64);
+            print(rt, " ");
+            print_name(rt, answer as u32);
+            print(rt, " ");
+            print_number(rt, count);
+            print(rt, "\n");
         }
     }
 }
 
 // Every answer that a record can have, and 18.
-fn print_answers(counts: &[u64; 32]) {
-    print_count(counts, 0);
-    print_count(counts, 1);
-    print_count(counts, 2);
-    print_count(counts, 3);
-    print_count(counts, 4);
-    print_count(counts, 5);
-    print_count(counts, 6);
-    print_count(counts, 7);
-    print_count(counts, 8);
-    print_count(counts, 9);
-    print_count(counts, 10);
-    print_count(counts, 11);
-    print_count(counts, 12);
-    print_count(counts, 13);
-    print_count(counts, 15);
-    print_count(counts, 18);
+fn print_answers(rt: &impl Print, counts: &[u64; 32]) {
+    print_count(rt, counts, 0);
+    print_count(rt, counts, 1);
+    print_count(rt, counts, 2);
+    print_count(rt, counts, 3);
+    print_count(rt, counts, 4);
+    print_count(rt, counts, 5);
+    print_count(rt, counts, 6);
+    print_count(rt, counts, 7);
+    print_count(rt, counts, 8);
+    print_count(rt, counts, 9);
+    print_count(rt, counts, 10);
+    print_count(rt, counts, 11);
+    print_count(rt, counts, 12);
+    print_count(rt, counts, 13);
+    print_count(rt, counts, 15);
+    print_count(rt, counts, 18);
 }
 
-pub(crate) fn print_counts(counts: &[u64; 32], records: u64, first: First) {
-    print(b"records ");
-    print_number(records);
-    print(b"\n");
-    print_answers(counts);
+pub(crate) fn print_counts(rt: &impl Print, counts: &[u64; 32], records: u64, first: First) {
+    print(rt, "records ");
+    print_number(rt, records);
+    print(rt, "\n");
+    print_answers(rt, counts);
     if first.found {
-        print(b"first malformed at place ");
-        print_number(first.place);
-        print(b"\n");
+        print(rt, "first malformed at place ");
+        print_number(rt, first.place);
+        print(rt, "\n");
     }
 }

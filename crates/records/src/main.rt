@@ -15,8 +15,11 @@ mod counts;
 mod rows;
 
 use counts::{First, Minute, count, print_counts, print_minute, with_fix};
-use libc::{STDERR_FILENO, STDIN_FILENO, STDOUT_FILENO};
 use rows::{print_columns, print_row};
+use std::fmt::Display;
+use std::io;
+use std::io::Read;
+use std::rt::Files;
 
 // A proved loop has to end, and nothing says that a file does: no file has this many records.
 const MOST: u64 = 0xff_ffff_ffff_ffff;
@@ -31,12 +34,12 @@ struct Step {
     time: u64,
 }
 
-pub(crate) fn print(text: &[u8]) {
-    io::write_all(STDOUT_FILENO, text);
+pub(crate) fn print(rt: &impl Print, text: impl Display + Drop) {
+    let _ = rt.print(text);
 }
 
-pub(crate) fn print_number(number: u64) {
-    io::print_decimal(STDOUT_FILENO, number);
+pub(crate) fn print_number(rt: &impl Print, number: u64) {
+    print(rt, number);
 }
 
 // ---- the whole
@@ -60,15 +63,15 @@ fn answer_of(bytes: &[u8; 176]) -> u32 {
 }
 
 // The next record, printed if it is to be.
-fn next(fd: i32, csv: bool, place: u64) -> Step {
+fn next(rt: &impl Print, file: &mut impl Read, csv: bool, place: u64) -> Step {
     let mut bytes = [0u8; 176];
-    let n = io::read_full(fd, &mut bytes);
+    let n = host::read_full(file, &mut bytes);
     if n < 176 {
         return ended(n > 0);
     }
     let answer = answer_of(&bytes);
     if csv {
-        print_row(&bytes, place, answer);
+        print_row(rt, &bytes, place, answer);
     }
     Step {
         ended: false,
@@ -86,38 +89,43 @@ fn first_of(first: First, place: u64, answer: u32) -> First {
 }
 
 // The run of fixes of a minute with a record more, where minutes are counted.
-fn run_with(run: Minute, step: Step, csv: bool) -> Minute {
+fn run_with(rt: &impl Print, run: Minute, step: Step, csv: bool) -> Minute {
     if csv || step.answer != 0 {
         return run;
     }
-    with_fix(run, step.time)
+    with_fix(rt, run, step.time)
 }
 
-fn print_torn(place: u64) {
-    io::write_all(
-        STDERR_FILENO,
-        b"records: the file ends within the record at place ",
-    );
-    io::print_decimal(STDERR_FILENO, place);
-    io::write_all(
-        STDERR_FILENO,
-        b": it is no whole number of records of 176 bytes (16, torn file)\n",
+fn print_torn(rt: &impl Eprint, place: u64) {
+    host::say(rt, "records: the file ends within the record at place ");
+    host::say(rt, place);
+    host::say(
+        rt,
+        ": it is no whole number of records of 176 bytes (16, torn file)\n",
     );
 }
 
 // The last words, where the file has so many whole records.
-fn last(counts: &[u64; 32], records: u64, first: First, run: Minute, csv: bool, torn: bool) {
+fn last<R: Print + Eprint>(
+    rt: &R,
+    counts: &[u64; 32],
+    records: u64,
+    first: First,
+    run: Minute,
+    csv: bool,
+    torn: bool,
+) {
     if !csv {
-        print_minute(run);
-        print_counts(counts, records, first);
+        print_minute(rt, run);
+        print_counts(rt, counts, records, first);
     }
     if torn {
-        print_torn(records);
+        print_torn(rt, records);
     }
 }
 
 // Goes through the records.
-fn run(fd: i32, csv: bool) {
+fn run<R: Print + Eprint>(rt: &R, file: &mut impl Read, csv: bool) {
     let mut counts = [0u64; 32];
     let mut records = 0;
     let mut first = First {
@@ -130,56 +138,61 @@ fn run(fd: i32, csv: bool) {
         fixes: 0,
     };
     while records < MOST {
-        let step = next(fd, csv, records);
+        let step = next(rt, file, csv, records);
         if step.ended {
-            last(&counts, records, first, minute, csv, step.torn);
+            last(rt, &counts, records, first, minute, csv, step.torn);
             return;
         }
         count(&mut counts, step.answer);
         let f = first_of(first, records, step.answer);
         first = f;
-        let m = run_with(minute, step, csv);
+        let m = run_with(rt, minute, step, csv);
         minute = m;
         records += 1;
     }
 }
 
-// The file, or standard input.
-fn opened(path: &[u8]) -> i32 {
+// The file, or none, which stands for standard input.
+fn opened<R: Files>(rt: &R, path: &[u8]) -> io::Result<Option<R::File>> {
     if path.len() == 0 {
-        return STDIN_FILENO;
+        return Ok(None);
     }
-    os::open_read(path)
+    match host::open_read(rt, path) {
+        Ok(file) => Ok(Some(file)),
+        Err(error) => Err(error),
+    }
 }
 
-// Lists or counts the file.
-fn all(path: &[u8], csv: bool) {
-    let mut byte = [0u8; 1];
-    let fd = opened(path);
-    if fd < 0 {
-        os::fail(path);
-        return;
-    }
+// Lists or counts what is opened.
+fn read<R: Print + Eprint + Alloc>(rt: &R, file: &mut impl Read, csv: bool) {
     if csv {
-        print_columns();
+        print_columns(rt);
     }
-    run(fd, csv);
-    if libc::read(fd, &mut byte) < 0 {
-        os::fail(b"records: reading");
+    run(rt, file, csv);
+    host::sound(rt, file, b"records: reading");
+}
+
+// Lists or counts the file, or standard input.
+fn all<R: Files + Print + Eprint + Alloc>(rt: &R, input: &mut impl Read, path: &[u8], csv: bool) {
+    match opened(rt, path) {
+        Ok(None) => read(rt, input, csv),
+        Ok(Some(mut file)) => read(rt, &mut file, csv),
+        Err(error) => host::fail(rt, path, error),
     }
 }
 
-fn main() {
-    let mut word = io::buffer();
-    let mut path = io::buffer();
-    let w = os::arg(1, &mut word);
-    let p = os::arg(2, &mut path);
+fn main(rt: HostRuntime) {
+    let mut input = rt.stdin();
+    let mut word = host::buffer();
+    let mut path = host::buffer();
+    let w = host::arg(&rt, 1, &mut word);
+    let p = host::arg(&rt, 2, &mut path);
     let csv = check::same(&word[..w], b"--csv");
-    if os::arg_count() > 3 || os::arg_count() == 3 && !csv {
-        io::write_all(STDERR_FILENO, b"usage: records [--csv] [FILE]\n");
+    if host::arg_count(&rt) > 3 || host::arg_count(&rt) == 3 && !csv {
+        host::say(&rt, "usage: records [--csv] [FILE]\n");
     } else if csv {
-        all(&path[..p], true);
+        all(&rt, &mut input, &path[..p], true);
     } else {
-        all(&word[..w], false);
+        all(&rt, &mut input, &word[..w], false);
     }
 }

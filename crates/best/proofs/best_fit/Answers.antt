@@ -1,6 +1,5 @@
 -- `best::best_fit` meets its contract. The whitener is asked first; then the fits are the definition's, and what they come to is its answer
 -- (proofs/Judging.antt). Assumes nothing.
-use borrow.Author.Rules.{rules}
 use mathlib.Core.Path.{refl, ◌∙◌}
 use lib.ListN.{take}
 use Rattle.best.specs.Held.{fits_of, points_to}

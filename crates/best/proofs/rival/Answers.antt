@@ -1,5 +1,4 @@
 -- `best::rival` meets its contract. A costlier fit is none, and of the others the distance decides. Assumes nothing.
-use borrow.Author.Rules.{rules}
 use mathlib.Core.Path.{sym, ap}
 use mathlib.Core.Bool.{Bool, not, ◌&&◌}
 use lib.Ieee.{Float, lt}

@@ -2,12 +2,9 @@
 -- other changes nothing (`mask-stays`). Assumes nothing.
 use borrow.Author.Rules.{rules}
 use mathlib.Core.Path.{◌≡◌, refl, sym, ap, ◌∙◌}
-use Prim.Native.Nat.{ℕ, ◌≤◌, ◌-◌}
 use native.Mathlib.Omega.{arith}
-use lib.ListN.{take}
 use Rattle.sets.specs.Sets.{Subset, joined}
-use Rattle.sets.specs.Mask.{has}
-use Rattle.best.specs.Best.{fit_at, weighed}
+use Rattle.best.specs.Best.{weighed}
 use Rattle.best.specs.Held.{fits_of}
 use Rattle.best.proofs.Passes.{fit-at, mask_start, mask-joins, mask-stays}
 use Rattle.best.proofs.weighed.Goals.{then-weigh, else-weigh}

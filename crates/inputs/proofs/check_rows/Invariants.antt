@@ -1,11 +1,8 @@
 -- `inputs::check_rows` meets its contract: each turn adds the next row's check (`first_next`). Assumes nothing.
-use borrow.Author.Rules.{rules}
-use mathlib.Core.Path.{◌≡◌, refl, ◌∙◌}
+use mathlib.Core.Path.{◌≡◌}
 use Prim.Native.Nat.{◌-◌, ◌≤◌}
-use native.Mathlib.Omega.{arith}
 use Rattle.inputs.specs.Faults.{first_to}
 use Rattle.inputs.specs.Inputs.{check_row}
-use Rattle.inputs.proofs.Steps.{first_next}
 use Rattle.inputs.proofs.check_rows.Given as goal
 
 abbrev pub invariant-loop-i : goal.invariant-loop-i

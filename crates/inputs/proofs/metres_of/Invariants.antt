@@ -1,11 +1,7 @@
 -- `inputs::metres_of` meets its contract: each turn stores the next site's three (`metres-next`). Assumes nothing.
-use borrow.Author.Rules.{rules}
-use mathlib.Core.Path.{◌≡◌, refl}
+use mathlib.Core.Path.{◌≡◌}
 use Prim.Native.Nat.{◌-◌, ◌≤◌}
-use native.Mathlib.Omega.{arith}
-use Rattle.receptions.specs.Receptions.{fill_to}
 use Rattle.inputs.proofs.Held.{metres_in}
-use Rattle.inputs.proofs.Steps.{metres-next}
 use Rattle.inputs.proofs.metres_of.Given as goal
 
 abbrev pub invariant-loop-i : goal.invariant-loop-i

@@ -1,11 +1,8 @@
 -- `inputs::put_covariance` meets its contract: each turn stores the next entry (`fill-next`). Assumes nothing.
 use mathlib.Core.Path.{◌≡◌}
 use Prim.Native.Nat.{◌*◌, ◌-◌, ◌≤◌}
-use native.Mathlib.Omega.{arith}
-use Rattle.dense.proofs.Places.{room}
 use Rattle.receptions.specs.Receptions.{fill_to, floats}
 use Rattle.inputs.specs.Inputs.{upper_at}
-use Rattle.receptions.proofs.Filling.{fill-next}
 use Rattle.inputs.proofs.put_covariance.Given as goal
 
 abbrev pub invariant-loop-k : goal.invariant-loop-k

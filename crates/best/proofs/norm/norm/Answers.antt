@@ -1,5 +1,4 @@
 -- `best::norm::norm` meets its contract, call by call, by the columns that `whitened` gives. Assumes nothing.
-use borrow.Author.Rules.{rules}
 use mathlib.Core.Path.{refl, ◌∙◌}
 use Rattle.best.proofs.Judging.{norm-is}
 use Rattle.best.proofs.norm.norm.Goals as goal

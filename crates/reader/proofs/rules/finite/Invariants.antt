@@ -1,10 +1,6 @@
 -- `reader::rules::finite` meets its contract. After i turns the answer is that of the first i numbers. Assumes nothing.
-use borrow.Author.Rules.{rules}
-use Rattle.words.specs.Words.{f64_at}
 use Prim.Native.Nat.{◌≤◌, ◌-◌}
-use mathlib.Core.Path.{◌≡◌, refl}
-use native.Mathlib.Omega.{arith}
-use native.Mathlib.Numerals.{add-one}
+use mathlib.Core.Path.{◌≡◌}
 use Rattle.reader.specs.Tests.{finite}
 use Rattle.reader.proofs.rules.finite.Given as goal
 

@@ -1,7 +1,4 @@
 -- `starts::bancroft::all_finite` meets its contract: each return is one outcome of the four tests, in the order of the definition. Assumes nothing.
-use Rattle.std.proofs.Common.{◌≡◌, ◌&&◌, rules}
-use Rattle.binary64.specs.Steps.{is_finite}
-use Rattle.dense.specs.Entries.{nth}
 use Rattle.starts.specs.Bancroft.{all_finite}
 use Rattle.starts.proofs.bancroft.all_finite.Goals as goal
 

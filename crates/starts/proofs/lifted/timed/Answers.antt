@@ -1,6 +1,6 @@
 -- `starts::lifted::timed` meets its contract: the invariant: the sum is that of the first i times, from the ranges that stand below k (`fill-at`).
 -- Assumes nothing.
-use Rattle.std.proofs.Common.{◌≡◌, ◌-◌, ◌≤◌, List, replicate, refl, ap, ◌∙◌, ap₂, add-one, arith, rules}
+use Rattle.std.proofs.Common.{◌≡◌, List, replicate, refl, ap, ◌∙◌, ap₂, add-one, arith, rules}
 use lib.Ieee.{Float}
 use Rattle.binary64.specs.Steps.{◌⊕◌, ◌⊖◌, nought}
 use Rattle.dense.specs.Entries.{nth}
