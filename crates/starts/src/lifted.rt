@@ -59,7 +59,13 @@ fn timed(sites: &[f64; 96], z: &[f64; 32], k: usize, x: [f64; 3]) -> [f64; 4]
 }
 
 // The start at a place's latitude and longitude, and at this height.
-pub fn lifted(sites: &[f64; 96], z: &[f64; 32], k: usize, surface: Geodetic, height: f64) -> [f64; 4]
+pub fn lifted(
+    sites: &[f64; 96],
+    z: &[f64; 32],
+    k: usize,
+    surface: Geodetic,
+    height: f64,
+) -> [f64; 4]
     requires { k ≤ 32 }
     ensures { result ≡ lifted sites.now z.now k surface height }
 {
