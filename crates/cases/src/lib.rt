@@ -1,11 +1,12 @@
-// Cases on standard input, one after the other: reading them, and counting those that differ. What the programs share
-// that compare recorded cases.
+// Cases on standard input, one after the other: reading them, counting those that differ, and printing how many do.
+// What the programs share that compare recorded cases.
 #![tactic(auto)]
 
 ghost use Rattle.std.specs.Prelude.{◌+◌, ◌<◌, ◌≤◌, cond, ◌≡◌, length, drop};
 ghost use Rattle.io.specs.Counts.{IsPrefixLen};
 
-use libc::STDIN_FILENO;
+use std::io;
+use std::io::Read;
 
 // A proved loop has to end, and nothing says that an input does: no file has this many cases.
 pub const MOST: u64 = 1000000;
@@ -66,8 +67,8 @@ impl Tally {
 }
 
 // Reads the next n bytes to the start of `bytes`, and says how many came: none where `bytes` has no room for n. Of what
-// comes, and how much, nothing is promised, since `io::read_full` says nothing of it.
-pub fn read(bytes: &mut [u8], n: usize) -> usize
+// comes, and how much, nothing is promised, since `host::read_full` says nothing of it.
+pub fn read(input: &mut impl Read, bytes: &mut [u8], n: usize) -> usize
     ensures prefix_len { IsPrefixLen result bytes.new }
     ensures upper_bound { (result ≤ n) × (drop n bytes.new ≡ drop n bytes.old) }
     ensures value { length bytes.old < n → (result ≡ 0) × (bytes.new ≡ bytes.old) }
@@ -76,5 +77,13 @@ pub fn read(bytes: &mut [u8], n: usize) -> usize
     if n > room {
         return 0;
     }
-    io::read_full(STDIN_FILENO, &mut bytes[..n])
+    host::read_full(input, &mut bytes[..n])
+}
+
+// Prints how many were compared and how many differ; and likewise of the falsified records.
+pub fn print(rt: &impl Print, tally: Tally) -> io::Result<()> {
+    let compared = tally.compared;
+    let differ = tally.differ;
+    let falsified = tally.differ_falsified;
+    println!(rt; "{compared} compared, {differ} differ; {compared} falsified, {falsified} differ")
 }

@@ -22,7 +22,7 @@ returns c =
     let size = c.decimal-n.ensures.in_bounds.1 in
     let text = text_of c.args.text in (
       c.with.ensures.0 ∙ ap (λ (d : List ℕ). text ++ d)
-          ((c.decimal-n.ensures.digits, c.decimal-n.ensures.rest) ∙ spelt _ _ 20 most c.decimal-n.ensures.len),
+          (c.decimal-n.ensures.digits ∙ spelt _ _ 20 most c.decimal-n.ensures.len),
       c.with.ensures.1,
       omega arith,
     )
