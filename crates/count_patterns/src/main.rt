@@ -9,52 +9,47 @@ mod lines;
 ghost use Rattle.std.specs.Prelude.{◌≡◌, ◌^◌, ◌≤◌, length};
 ghost use Rattle.patterns.specs.Patterns.{pairs};
 
-use libc::{STDERR_FILENO, STDOUT_FILENO};
 use lines::line_of;
+use std::io;
 use text::Text;
 
-fn say(words: &[u8]) -> bool {
-    io::write_all(STDOUT_FILENO, words)
-}
-
-// Prints a line. Whether it was written.
-fn print(line: Text) -> bool
+// Prints a line.
+fn print(rt: &impl Print, line: Text) -> io::Result<()>
     requires { (length line.bytes ≡ 512) × (line.n ≤ 512) }
 {
     let bytes = line.bytes;
     let n = line.n;
-    say(&bytes[..n])
+    rt.write_all(&bytes[..n])
 }
 
-// The line of n receptions, whose patterns are `all`: 2 to the number of pairs. Whether it was written.
-fn line(n: u32, all: u64) -> bool
+// The line of n receptions, whose patterns are `all`: 2 to the number of pairs.
+fn line(rt: &impl Print, n: u32, all: u64) -> io::Result<()>
     requires { (n ≤ 6) × (all ≡ 2 ^ pairs n) }
 {
-    print(line_of(n, all))
+    print(rt, line_of(n, all))
 }
 
-// The table. Whether it was written.
-fn print_table() -> bool {
-    let title = say(
-        b"Of all patterns of failing pairs, how many leave 0 to 6 survivors of the screen:\n\n",
-    );
-    let head = say(
-        b"receptions  patterns       0       1       2       3       4       5       6  four or more\n",
-    );
-    let a = line(0, 1);
-    let b = line(1, 1);
-    let c = line(2, 2);
-    let d = line(3, 8);
-    let e = line(4, 64);
-    let f = line(5, 1_024);
-    let g = line(6, 32_768);
-    title && head && a && b && c && d && e && f && g
+// The table, to the first line that is not written.
+fn print_table(rt: &impl Print) -> io::Result<()> {
+    rt.print(
+        "Of all patterns of failing pairs, how many leave 0 to 6 survivors of the screen:\n\n",
+    )?;
+    rt.print(
+        "receptions  patterns       0       1       2       3       4       5       6  four or more\n",
+    )?;
+    line(rt, 0, 1)?;
+    line(rt, 1, 1)?;
+    line(rt, 2, 2)?;
+    line(rt, 3, 8)?;
+    line(rt, 4, 64)?;
+    line(rt, 5, 1_024)?;
+    line(rt, 6, 32_768)
 }
 
-fn main() {
-    if os::arg_count() > 1 {
-        io::write_all(STDERR_FILENO, b"usage: count_patterns, without arguments\n");
-    } else if !print_table() {
-        os::fail(b"count_patterns: standard output");
+fn main(rt: HostRuntime) {
+    if host::arg_count(&rt) > 1 {
+        host::say(&rt, "usage: count_patterns, without arguments\n");
+    } else if let Err(error) = print_table(&rt) {
+        host::fail(&rt, b"count_patterns: standard output", error);
     }
 }

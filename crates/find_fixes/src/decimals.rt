@@ -3,6 +3,8 @@ ghost use Rattle.std.specs.Prelude.{◌≡◌, ◌≤◌, length, drop, if◌the
 ghost use Rattle.std.specs.Float.Ieee.{neg};
 ghost use Rattle.find_fixes.specs.Decimals as decimals;
 
+use std::env::Env;
+
 // With fewer than this there is room for a digit more. A whole number of 15 digits is one that an f64 holds, and so is
 // a power of ten below that, so that their quotient is the f64 nearest to the decimal.
 const MOST: u64 = 100_000_000_000_000;
@@ -138,8 +140,8 @@ fn parsed(text: &[u8]) -> Number
 }
 
 // The number that argument i is.
-pub(crate) fn number_at(i: usize) -> Number {
+pub(crate) fn number_at(rt: &impl Env, i: usize) -> Number {
     let mut text = [0u8; 64];
-    let n = os::arg(i, &mut text);
+    let n = host::arg(rt, i, &mut text);
     parsed(&text[..n])
 }

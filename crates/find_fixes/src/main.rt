@@ -7,8 +7,8 @@
 // and its distance. A file or a query that is turned away is said on standard error, and then nothing is written; so
 // are other arguments, and an output that fails.
 //
-// The file is read block by block, for the language has no heap: each block is whole records, but for the last of a
-// torn file, and what is found in a block is found by `near`.
+// The file is read block by block: each block is whole records, but for the last of a torn file, and what is found in a
+// block is found by `near`.
 #![tactic(auto)]
 
 mod decimals;
@@ -22,10 +22,12 @@ ghost use Rattle.find_fixes.specs.Blocks as blocks;
 
 use decimals::{Number, number_at};
 use geo::Geodetic;
-use libc::{STDERR_FILENO, STDOUT_FILENO};
 use linalg::Vec3;
 use lines::{fix_line, nearest_line};
 use near::Held;
+use std::io;
+use std::io::Read;
+use std::rt::Files;
 use text::Text;
 
 // The records of a block, and its bytes.
@@ -60,25 +62,24 @@ struct Query {
     name: bool,
 }
 
-fn say(text: &[u8]) {
-    io::write_all(STDERR_FILENO, text);
-}
-
-// Prints a line. Whether it was written.
-fn print(line: Text) -> bool
+// Prints a line.
+fn print(rt: &impl Print, line: Text) -> io::Result<()>
     requires { (length line.bytes ≡ 512) × (line.n ≤ 512) }
 {
     let bytes = line.bytes;
     let n = line.n;
-    io::write_all(STDOUT_FILENO, &bytes[..n])
+    rt.write_all(&bytes[..n])
 }
 
 // Whether what was printed was written; where it was not, that is said.
-fn told(written: bool) -> bool {
-    if !written {
-        os::fail(b"find_fixes: standard output");
+fn told<R: Eprint + Alloc>(rt: &R, written: io::Result<()>) -> bool {
+    match written {
+        Ok(()) => true,
+        Err(error) => {
+            host::fail(rt, b"find_fixes: standard output", error);
+            false
+        }
     }
-    written
 }
 
 // ---- what is turned away
@@ -168,30 +169,40 @@ fn line_at(block: &[u8], base: u64, k: u64, point: Vec3, radius: f64) -> Text
     none
 }
 
-// Names the fixes of a block within the radius, a line each, as long as they can be written. Whether they were.
-fn name_block(block: &[u8], base: u64, point: Vec3, radius: f64) -> bool {
+// Names the fixes of a block within the radius, a line each, as long as they can be written.
+fn name_block(
+    rt: &impl Print,
+    block: &[u8],
+    base: u64,
+    point: Vec3,
+    radius: f64,
+) -> io::Result<()> {
     for k in 0..RECORDS {
-        if !print(line_at(block, base, k as u64, point, radius)) {
-            return false;
-        }
+        print(rt, line_at(block, base, k as u64, point, radius))?;
     }
-    true
+    Ok(())
 }
 
 // Names those of a block, if that is asked. Whether nothing fails; where it does, that is said.
-fn named(block: &[u8], base: u64, query: Query) -> bool {
+fn named<R: Print + Eprint + Alloc>(rt: &R, block: &[u8], base: u64, query: Query) -> bool {
     let point = query.point;
     if query.name {
-        return told(name_block(block, base, point, query.radius));
+        return told(rt, name_block(rt, block, base, point, query.radius));
     }
     true
 }
 
-fn search_block(fd: i32, base: u64, query: Query, best: Best) -> Turn {
+fn search_block<R: Print + Eprint + Alloc>(
+    rt: &R,
+    file: &mut impl Read,
+    base: u64,
+    query: Query,
+    best: Best,
+) -> Turn {
     let mut block = [0u8; BLOCK];
-    let n = io::read_full(fd, &mut block);
+    let n = host::read_full(file, &mut block);
     let point = query.point;
-    let shown = named(&block[..n], base, query);
+    let shown = named(rt, &block[..n], base, query);
     let next = with_block(&block[..n], base, point, best);
     Turn {
         last: n < BLOCK || !shown,
@@ -200,12 +211,12 @@ fn search_block(fd: i32, base: u64, query: Query, best: Best) -> Turn {
 }
 
 // The search of the file, block by block. Nothing says that a file ends, so the turns are counted down.
-fn search(fd: i32, query: Query) -> Best {
+fn search<R: Print + Eprint + Alloc>(rt: &R, file: &mut impl Read, query: Query) -> Best {
     let mut turns = u64::MAX;
     let mut base = 0u64;
     let mut best = none_yet();
     while turns > 0 {
-        let searched = search_block(fd, base, query, best);
+        let searched = search_block(rt, file, base, query, best);
         let next = searched.best;
         best = next;
         if searched.last {
@@ -220,8 +231,8 @@ fn search(fd: i32, query: Query) -> Best {
 // ---- the whole
 
 // A file that cannot be read: that is said.
-fn unread(path: &[u8]) -> Best {
-    os::fail(path);
+fn unread<R: Eprint + Alloc>(rt: &R, path: &[u8], error: io::Error) -> Best {
+    host::fail(rt, path, error);
     Best {
         found: false,
         place: 0,
@@ -231,29 +242,35 @@ fn unread(path: &[u8]) -> Best {
 }
 
 // The nearest fix of the file, and those within the radius named, if that is asked.
-fn searched(path: &[u8], query: Query) -> Best {
-    let fd = os::open_read(path);
-    let mut byte = [0u8; 1];
-    if fd < 0 {
-        return unread(path);
+fn searched<R: Files + Print + Eprint + Alloc>(rt: &R, path: &[u8], query: Query) -> Best {
+    match host::open_read(rt, path) {
+        Ok(mut file) => {
+            let best = search(rt, &mut file, query);
+            match host::read_error(&mut file) {
+                None => best,
+                Some(error) => unread(rt, path, error),
+            }
+        }
+        Err(error) => unread(rt, path, error),
     }
-    let best = search(fd, query);
-    if libc::read(fd, &mut byte) < 0 {
-        return unread(path);
-    }
-    libc::close(fd);
-    best
 }
 
 // Says why a file is turned away, or else why the query is. Whether neither is.
-fn passed(file: u32, query: u32) -> bool {
+fn passed(rt: &impl Eprint, file: u32, query: u32) -> bool {
     if file == refusals::TORN_FILE {
-        say(b"find_fixes: the file is not whole records of 176 bytes (16, torn file)\n");
+        host::say(
+            rt,
+            "find_fixes: the file is not whole records of 176 bytes (16, torn file)\n",
+        );
     } else if file == refusals::MALFORMED_RECORD {
-        say(b"find_fixes: the file has a record that breaks a rule (18, malformed record)\n");
+        host::say(
+            rt,
+            "find_fixes: the file has a record that breaks a rule (18, malformed record)\n",
+        );
     } else if file == 0 && query != 0 {
-        say(
-            b"find_fixes: the place or the radius is beyond 10^8 m, or the radius is negative (22, bad query)\n",
+        host::say(
+            rt,
+            "find_fixes: the place or the radius is beyond 10^8 m, or the radius is negative (22, bad query)\n",
         );
     }
     file == 0 && query == 0
@@ -267,10 +284,11 @@ fn place_asked(point: Vec3, good: bool) -> Vec3 {
     [0.0, 0.0, 0.0]
 }
 
-fn find(path: &[u8], point: Vec3, radius: f64) {
+fn find<R: Files + Print + Eprint + Alloc>(rt: &R, path: &[u8], point: Vec3, radius: f64) {
     let refusal = query_refusal(point, radius);
     let from = place_asked(point, refusal == 0);
     let best = searched(
+        rt,
         path,
         Query {
             point: from,
@@ -278,8 +296,9 @@ fn find(path: &[u8], point: Vec3, radius: f64) {
             name: false,
         },
     );
-    if passed(best.refusal, refusal) && told(print(nearest_line(held(best)))) {
+    if passed(rt, best.refusal, refusal) && told(rt, print(rt, nearest_line(held(best)))) {
         searched(
+            rt,
             path,
             Query {
                 point,
@@ -303,48 +322,61 @@ fn point_of(x: f64, y: f64, z: f64, ecef: bool) -> Vec3 {
 }
 
 // Searches by four numbers, if each is good.
-fn asked(path: &[u8], x: Number, y: Number, z: Number, radius: Number, ecef: bool) {
+fn asked<R: Files + Print + Eprint + Alloc>(
+    rt: &R,
+    path: &[u8],
+    x: Number,
+    y: Number,
+    z: Number,
+    radius: Number,
+    ecef: bool,
+) {
     if x.good && y.good && z.good && radius.good {
         find(
+            rt,
             path,
             point_of(x.value, y.value, z.value, ecef),
             radius.value,
         );
     } else {
-        say(
-            b"find_fixes: a number is at most 15 digits, with one point among them or none, and a minus or none\n",
+        host::say(
+            rt,
+            "find_fixes: a number is at most 15 digits, with one point among them or none, and a minus or none\n",
         );
     }
 }
 
-fn main() {
-    let mut path = io::buffer();
+fn main(rt: HostRuntime) {
+    let mut path = host::buffer();
     let mut word = [0u8; 8];
-    let p = os::arg(1, &mut path);
-    let w = os::arg(2, &mut word);
+    let p = host::arg(&rt, 1, &mut path);
+    let w = host::arg(&rt, 2, &mut word);
     let ecef = check::same(&word[..w], b"--ecef");
-    let count = os::arg_count();
+    let count = host::arg_count(&rt);
     if ecef && count == 7 {
         asked(
+            &rt,
             &path[..p],
-            number_at(3),
-            number_at(4),
-            number_at(5),
-            number_at(6),
+            number_at(&rt, 3),
+            number_at(&rt, 4),
+            number_at(&rt, 5),
+            number_at(&rt, 6),
             true,
         );
     } else if !ecef && count == 6 {
         asked(
+            &rt,
             &path[..p],
-            number_at(2),
-            number_at(3),
-            number_at(4),
-            number_at(5),
+            number_at(&rt, 2),
+            number_at(&rt, 3),
+            number_at(&rt, 4),
+            number_at(&rt, 5),
             false,
         );
     } else {
-        say(
-            b"usage: find_fixes FILE LATITUDE LONGITUDE HEIGHT RADIUS, or find_fixes FILE --ecef X Y Z RADIUS\n",
+        host::say(
+            &rt,
+            "usage: find_fixes FILE LATITUDE LONGITUDE HEIGHT RADIUS, or find_fixes FILE --ecef X Y Z RADIUS\n",
         );
     }
 }

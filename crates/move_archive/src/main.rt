@@ -12,7 +12,8 @@
 ghost use Rattle.std.specs.Prelude.{◌≤◌, ◌≡◌, length};
 ghost use Rattle.move_archive.specs.Moved.{new_of, old_of};
 
-use libc::{STDERR_FILENO, STDOUT_FILENO};
+use std::io::Read;
+use std::rt::Files;
 
 // A proved loop has to end, and nothing says that a file does: no file has this many records.
 const MOST: u64 = 0xff_ffff_ffff_ffff;
@@ -54,24 +55,18 @@ struct Old {
     bytes: [u8; 176],
 }
 
-fn print(text: &[u8]) {
-    io::write_all(STDERR_FILENO, text);
-}
-
-fn print_number(number: u64) {
-    io::print_decimal(STDERR_FILENO, number);
-}
-
 // Writes what a record is moved to, if that is asked. Whether nothing fails; where it does, that is said.
-fn shown(out: &[u8], asked: bool) -> bool {
+fn shown<R: Print + Eprint + Alloc>(rt: &R, out: &[u8], asked: bool) -> bool {
     if !asked {
         return true;
     }
-    if io::write_all(STDOUT_FILENO, out) {
-        return true;
+    match rt.write_all(out) {
+        Ok(()) => true,
+        Err(error) => {
+            host::fail(rt, b"move_archive: standard output", error);
+            false
+        }
     }
-    os::fail(b"move_archive: standard output");
-    false
 }
 
 // A record, moved to the archive's form.
@@ -99,11 +94,11 @@ fn to_old(bytes: &[u8]) -> Old
 }
 
 // Writes a record in the archive's form, if that is asked.
-fn there(bytes: &[u8], write: bool) -> Step {
+fn there<R: Print + Eprint + Alloc>(rt: &R, bytes: &[u8], write: bool) -> Step {
     let moved = to_new(bytes);
     let refusal = moved.refusal;
     let out = moved.bytes;
-    let written = shown(&out, write && refusal == 0);
+    let written = shown(rt, &out, write && refusal == 0);
     Step {
         ended: bytes.len() == 0,
         refusal,
@@ -112,11 +107,11 @@ fn there(bytes: &[u8], write: bool) -> Step {
 }
 
 // Writes a record that is moved back, if that is asked.
-fn back(bytes: &[u8], write: bool) -> Step {
+fn back<R: Print + Eprint + Alloc>(rt: &R, bytes: &[u8], write: bool) -> Step {
     let moved = to_old(bytes);
     let refusal = moved.refusal;
     let out = moved.bytes;
-    let written = shown(&out, write && refusal == 0);
+    let written = shown(rt, &out, write && refusal == 0);
     Step {
         ended: bytes.len() == 0,
         refusal,
@@ -124,24 +119,24 @@ fn back(bytes: &[u8], write: bool) -> Step {
     }
 }
 
-fn next_old(fd: i32, write: bool) -> Step {
+fn next_old<R: Print + Eprint + Alloc>(rt: &R, file: &mut impl Read, write: bool) -> Step {
     let mut bytes = [0u8; 176];
-    let n = io::read_full(fd, &mut bytes);
-    there(&bytes[..n], write)
+    let n = host::read_full(file, &mut bytes);
+    there(rt, &bytes[..n], write)
 }
 
-fn next_new(fd: i32, write: bool) -> Step {
+fn next_new<R: Print + Eprint + Alloc>(rt: &R, file: &mut impl Read, write: bool) -> Step {
     let mut bytes = [0u8; 152];
-    let n = io::read_full(fd, &mut bytes);
-    back(&bytes[..n], write)
+    let n = host::read_full(file, &mut bytes);
+    back(rt, &bytes[..n], write)
 }
 
 // Moves the next record of the file, to the archive's form or back.
-fn next(fd: i32, to: bool, write: bool) -> Step {
+fn next<R: Print + Eprint + Alloc>(rt: &R, file: &mut impl Read, to: bool, write: bool) -> Step {
     if to {
-        return next_old(fd, write);
+        return next_old(rt, file, write);
     }
-    next_new(fd, write)
+    next_new(rt, file, write)
 }
 
 fn stopped(records: u64, step: Step) -> Stop
@@ -166,12 +161,12 @@ fn goes_on(step: Step) -> bool {
 }
 
 // Moves the records of the file up to its end, or to the first that is turned away.
-fn run(fd: i32, to: bool, write: bool) -> Stop
+fn run<R: Print + Eprint + Alloc>(rt: &R, file: &mut impl Read, to: bool, write: bool) -> Stop
     ensures { result.records ≤ 72057594037927935 }
 {
     let mut records = 0;
     while records < MOST {
-        let step = next(fd, to, write);
+        let step = next(rt, file, to, write);
         if !goes_on(step) {
             return stopped(records, step);
         }
@@ -185,100 +180,101 @@ fn run(fd: i32, to: bool, write: bool) -> Stop
 }
 
 // Closes the file. Whether reading on in it does not fail; where it does, that is said.
-fn closed(fd: i32, path: &[u8]) -> bool {
-    let mut byte = [0u8; 1];
-    let read = libc::read(fd, &mut byte) >= 0;
-    if !read {
-        os::fail(path);
-    }
-    libc::close(fd);
-    read
-}
-
-fn print_reason(refusal: u32) {
-    if refusal == refusals::TORN_FILE {
-        print(b", torn file: it is not whole\n");
-    } else if refusal == refusals::UNEQUAL_MIRROR {
-        print(b", unequal mirror: mirrored covariance entries differ\n");
-    } else {
-        print(b", malformed record: it breaks a rule that every fix record meets\n");
-    }
-}
-
-// Says which record was turned away, if one was. Whether none was.
-fn passed(stop: Stop) -> bool {
-    if stop.refusal == 0 {
-        return stop.written;
-    }
-    print(b"move_archive: the record at place ");
-    print_number(stop.records);
-    print(b" is turned away by ");
-    print_number(stop.refusal as u64);
-    print_reason(stop.refusal);
-    false
-}
-
-// Moves the records of the file once, and writes them, if that is asked.
-fn pass(path: &[u8], to: bool, write: bool) -> Outcome
-    ensures { result.records ≤ 72057594037927935 }
-{
-    let fd = os::open_read(path);
-    if fd < 0 {
-        os::fail(path);
-        return Outcome {
-            records: 0,
-            whole: false,
-        };
-    }
-    let stop = run(fd, to, write);
-    let read = closed(fd, path);
-    let whole = read && passed(stop);
-    Outcome {
-        records: stop.records,
-        whole,
-    }
-}
-
-fn print_sizes(records: u64, before: u64, after: u64) {
-    print(b"move_archive: ");
-    print_number(records);
-    print(b" records, ");
-    print_number(before);
-    print(b" bytes before, ");
-    print_number(after);
-    print(b" after\n");
-}
-
-fn print_moved(records: u64, to: bool)
-    requires { records ≤ 72057594037927935 }
-{
-    if to {
-        print_sizes(records, records * 176, records * 152);
-    } else {
-        print_sizes(records, records * 152, records * 176);
-    }
-}
-
-fn move_all(path: &[u8], to: bool) {
-    let looked = pass(path, to, false);
-    if looked.whole {
-        let moved = pass(path, to, true);
-        if moved.whole {
-            print_moved(moved.records, to);
+fn closed<R: Eprint + Alloc>(rt: &R, mut file: impl Read + Drop, path: &[u8]) -> bool {
+    match host::read_error(&mut file) {
+        None => true,
+        Some(error) => {
+            host::fail(rt, path, error);
+            false
         }
     }
 }
 
-fn main() {
+fn reason(refusal: u32) -> &'static str {
+    if refusal == refusals::TORN_FILE {
+        "torn file: it is not whole"
+    } else if refusal == refusals::UNEQUAL_MIRROR {
+        "unequal mirror: mirrored covariance entries differ"
+    } else {
+        "malformed record: it breaks a rule that every fix record meets"
+    }
+}
+
+// Says which record was turned away, if one was. Whether none was.
+fn passed(rt: &impl Eprint, stop: Stop) -> bool {
+    if stop.refusal == 0 {
+        return stop.written;
+    }
+    let place = stop.records;
+    let refusal = stop.refusal;
+    let reason = reason(refusal);
+    let _ = eprintln!(rt;
+        "move_archive: the record at place {place} is turned away by {refusal}, {reason}"
+    );
+    false
+}
+
+// Moves the records of the file once, and writes them, if that is asked.
+fn pass<R: Files + Print + Eprint + Alloc>(rt: &R, path: &[u8], to: bool, write: bool) -> Outcome
+    ensures { result.records ≤ 72057594037927935 }
+{
+    match host::open_read(rt, path) {
+        Ok(mut file) => {
+            let stop = run(rt, &mut file, to, write);
+            let read = closed(rt, file, path);
+            let whole = read && passed(rt, stop);
+            Outcome {
+                records: stop.records,
+                whole,
+            }
+        }
+        Err(error) => {
+            host::fail(rt, path, error);
+            Outcome {
+                records: 0,
+                whole: false,
+            }
+        }
+    }
+}
+
+fn print_sizes(rt: &impl Eprint, records: u64, before: u64, after: u64) {
+    let _ = eprintln!(rt; "move_archive: {records} records, {before} bytes before, {after} after");
+}
+
+fn print_moved(rt: &impl Eprint, records: u64, to: bool)
+    requires { records ≤ 72057594037927935 }
+{
+    if to {
+        print_sizes(rt, records, records * 176, records * 152);
+    } else {
+        print_sizes(rt, records, records * 152, records * 176);
+    }
+}
+
+fn move_all<R: Files + Print + Eprint + Alloc>(rt: &R, path: &[u8], to: bool) {
+    let looked = pass(rt, path, to, false);
+    if looked.whole {
+        let moved = pass(rt, path, to, true);
+        if moved.whole {
+            print_moved(rt, moved.records, to);
+        }
+    }
+}
+
+fn main(rt: HostRuntime) {
     let mut way = [0u8; 8];
-    let mut path = io::buffer();
-    let w = os::arg(1, &mut way);
-    let p = os::arg(2, &mut path);
+    let mut path = host::buffer();
+    let w = host::arg(&rt, 1, &mut way);
+    let p = host::arg(&rt, 2, &mut path);
     let to = check::same(&way[..w], b"to");
     let from = check::same(&way[..w], b"from");
-    if os::arg_count() == 3 && (to || from) {
-        move_all(&path[..p], to);
+    if host::arg_count(&rt) == 3 && (to || from) {
+        move_all(&rt, &path[..p], to);
     } else {
-        print(b"usage: move_archive to FILE, or move_archive from FILE\n");
+        host::say(
+            &rt,
+            "usage: move_archive to FILE, or move_archive from FILE\n",
+        );
     }
 }

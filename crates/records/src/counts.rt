@@ -1,6 +1,6 @@
 // How many records have each answer, and how many fixes were sent in each minute.
-use crate::rows::{LAST, SIGN, print_name};
-use crate::{print, print_number};
+use crate::rows::{LAST, SIGN, name_of};
+use std::io;
 
 // The picoseconds of a minute.
 const MINUTE: u64 = 60_000_000_000_000;
@@ -37,31 +37,28 @@ fn minute_of(word: u64) -> Minute {
 }
 
 // A run of fixes of a minute, if it has any.
-pub(crate) fn print_minute(minute: Minute) {
+pub(crate) fn print_minute(rt: &impl Print, minute: Minute) -> io::Result<()> {
     if minute.fixes > 0 {
-        print(b"minute ");
-        if minute.below {
-            print(b"-");
-        }
-        print_number(minute.number);
-        print(b" fixes ");
-        print_number(minute.fixes);
-        print(b"\n");
+        let sign = if minute.below { "-" } else { "" };
+        let number = minute.number;
+        let fixes = minute.fixes;
+        return println!(rt; "minute {sign}{number} fixes {fixes}");
     }
+    Ok(())
 }
 
 // The run with a fix more; one of another minute begins a run, and the run before is printed.
-pub(crate) fn with_fix(run: Minute, word: u64) -> Minute {
+pub(crate) fn with_fix(rt: &impl Print, run: Minute, word: u64) -> io::Result<Minute> {
     let now = minute_of(word);
     if now.below == run.below && now.number == run.number {
-        return Minute {
+        return Ok(Minute {
             below: run.below,
             number: run.number,
             fixes: std::num::wrapping_add_u64(run.fixes, 1),
-        };
+        });
     }
-    print_minute(run);
-    now
+    print_minute(rt, run)?;
+    Ok(now)
 }
 
 pub(crate) fn count(counts: &mut [u64; 32], answer: u32) {
@@ -72,49 +69,48 @@ pub(crate) fn count(counts: &mut [u64; 32], answer: u32) {
 }
 
 // How many records have an answer, if any has.
-fn print_count(counts: &[u64; 32], answer: usize) {
+fn print_count(rt: &impl Print, counts: &[u64; 32], answer: usize) -> io::Result<()> {
     if answer < 32 {
         let count = counts[answer];
         if count > 0 {
-            print(b"answer ");
-            print_number(answer as u64);
-            print(b" ");
-            print_name(answer as u32);
-            print(b" ");
-            print_number(count);
-            print(b"\n");
+            let name = name_of(answer as u32);
+            return println!(rt; "answer {answer} {name} {count}");
         }
     }
+    Ok(())
 }
 
 // Every answer that a record can have, and 18.
-fn print_answers(counts: &[u64; 32]) {
-    print_count(counts, 0);
-    print_count(counts, 1);
-    print_count(counts, 2);
-    print_count(counts, 3);
-    print_count(counts, 4);
-    print_count(counts, 5);
-    print_count(counts, 6);
-    print_count(counts, 7);
-    print_count(counts, 8);
-    print_count(counts, 9);
-    print_count(counts, 10);
-    print_count(counts, 11);
-    print_count(counts, 12);
-    print_count(counts, 13);
-    print_count(counts, 15);
-    print_count(counts, 18);
+fn print_answers(rt: &impl Print, counts: &[u64; 32]) -> io::Result<()> {
+    print_count(rt, counts, 0)?;
+    print_count(rt, counts, 1)?;
+    print_count(rt, counts, 2)?;
+    print_count(rt, counts, 3)?;
+    print_count(rt, counts, 4)?;
+    print_count(rt, counts, 5)?;
+    print_count(rt, counts, 6)?;
+    print_count(rt, counts, 7)?;
+    print_count(rt, counts, 8)?;
+    print_count(rt, counts, 9)?;
+    print_count(rt, counts, 10)?;
+    print_count(rt, counts, 11)?;
+    print_count(rt, counts, 12)?;
+    print_count(rt, counts, 13)?;
+    print_count(rt, counts, 15)?;
+    print_count(rt, counts, 18)
 }
 
-pub(crate) fn print_counts(counts: &[u64; 32], records: u64, first: First) {
-    print(b"records ");
-    print_number(records);
-    print(b"\n");
-    print_answers(counts);
+pub(crate) fn print_counts(
+    rt: &impl Print,
+    counts: &[u64; 32],
+    records: u64,
+    first: First,
+) -> io::Result<()> {
+    println!(rt; "records {records}")?;
+    print_answers(rt, counts)?;
     if first.found {
-        print(b"first malformed at place ");
-        print_number(first.place);
-        print(b"\n");
+        let place = first.place;
+        return println!(rt; "first malformed at place {place}");
     }
+    Ok(())
 }

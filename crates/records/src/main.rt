@@ -15,8 +15,10 @@ mod counts;
 mod rows;
 
 use counts::{First, Minute, count, print_counts, print_minute, with_fix};
-use libc::{STDERR_FILENO, STDIN_FILENO, STDOUT_FILENO};
 use rows::{print_columns, print_row};
+use std::io;
+use std::io::Read;
+use std::rt::Files;
 
 // A proved loop has to end, and nothing says that a file does: no file has this many records.
 const MOST: u64 = 0xff_ffff_ffff_ffff;
@@ -29,14 +31,6 @@ struct Step {
     torn: bool,
     answer: u32,
     time: u64,
-}
-
-pub(crate) fn print(text: &[u8]) {
-    io::write_all(STDOUT_FILENO, text);
-}
-
-pub(crate) fn print_number(number: u64) {
-    io::print_decimal(STDOUT_FILENO, number);
 }
 
 // ---- the whole
@@ -60,22 +54,22 @@ fn answer_of(bytes: &[u8; 176]) -> u32 {
 }
 
 // The next record, printed if it is to be.
-fn next(fd: i32, csv: bool, place: u64) -> Step {
+fn next(rt: &impl Print, file: &mut impl Read, csv: bool, place: u64) -> io::Result<Step> {
     let mut bytes = [0u8; 176];
-    let n = io::read_full(fd, &mut bytes);
+    let n = host::read_full(file, &mut bytes);
     if n < 176 {
-        return ended(n > 0);
+        return Ok(ended(n > 0));
     }
     let answer = answer_of(&bytes);
     if csv {
-        print_row(&bytes, place, answer);
+        print_row(rt, &bytes, place, answer)?;
     }
-    Step {
+    Ok(Step {
         ended: false,
         torn: false,
         answer,
         time: words::u64_at(&bytes, 72),
-    }
+    })
 }
 
 fn first_of(first: First, place: u64, answer: u32) -> First {
@@ -86,38 +80,42 @@ fn first_of(first: First, place: u64, answer: u32) -> First {
 }
 
 // The run of fixes of a minute with a record more, where minutes are counted.
-fn run_with(run: Minute, step: Step, csv: bool) -> Minute {
+fn run_with(rt: &impl Print, run: Minute, step: Step, csv: bool) -> io::Result<Minute> {
     if csv || step.answer != 0 {
-        return run;
+        return Ok(run);
     }
-    with_fix(run, step.time)
+    with_fix(rt, run, step.time)
 }
 
-fn print_torn(place: u64) {
-    io::write_all(
-        STDERR_FILENO,
-        b"records: the file ends within the record at place ",
-    );
-    io::print_decimal(STDERR_FILENO, place);
-    io::write_all(
-        STDERR_FILENO,
-        b": it is no whole number of records of 176 bytes (16, torn file)\n",
+fn print_torn(rt: &impl Eprint, place: u64) {
+    let _ = eprintln!(rt;
+        "records: the file ends within the record at place {place}: it is no whole number of records of 176 bytes \
+        (16, torn file)"
     );
 }
 
 // The last words, where the file has so many whole records.
-fn last(counts: &[u64; 32], records: u64, first: First, run: Minute, csv: bool, torn: bool) {
+fn last(
+    rt: &(impl Print + Eprint),
+    counts: &[u64; 32],
+    records: u64,
+    first: First,
+    run: Minute,
+    csv: bool,
+    torn: bool,
+) -> io::Result<()> {
     if !csv {
-        print_minute(run);
-        print_counts(counts, records, first);
+        print_minute(rt, run)?;
+        print_counts(rt, counts, records, first)?;
     }
     if torn {
-        print_torn(records);
+        print_torn(rt, records);
     }
+    Ok(())
 }
 
 // Goes through the records.
-fn run(fd: i32, csv: bool) {
+fn run(rt: &(impl Print + Eprint), file: &mut impl Read, csv: bool) -> io::Result<()> {
     let mut counts = [0u64; 32];
     let mut records = 0;
     let mut first = First {
@@ -130,56 +128,63 @@ fn run(fd: i32, csv: bool) {
         fixes: 0,
     };
     while records < MOST {
-        let step = next(fd, csv, records);
+        let step = next(rt, file, csv, records)?;
         if step.ended {
-            last(&counts, records, first, minute, csv, step.torn);
-            return;
+            return last(rt, &counts, records, first, minute, csv, step.torn);
         }
         count(&mut counts, step.answer);
         let f = first_of(first, records, step.answer);
         first = f;
-        let m = run_with(minute, step, csv);
+        let m = run_with(rt, minute, step, csv)?;
         minute = m;
         records += 1;
     }
+    Ok(())
 }
 
-// The file, or standard input.
-fn opened(path: &[u8]) -> i32 {
-    if path.len() == 0 {
-        return STDIN_FILENO;
+// Lists or counts what is read.
+fn of<R: Print + Eprint + Alloc>(rt: &R, file: &mut impl Read, csv: bool) -> io::Result<()> {
+    if csv {
+        print_columns(rt)?;
     }
-    os::open_read(path)
+    run(rt, file, csv)?;
+    if let Some(error) = host::read_error(file) {
+        host::fail(rt, b"records: reading", error);
+    }
+    Ok(())
 }
 
-// Lists or counts the file.
-fn all(path: &[u8], csv: bool) {
-    let mut byte = [0u8; 1];
-    let fd = opened(path);
-    if fd < 0 {
-        os::fail(path);
-        return;
+// Lists or counts the file, or standard input.
+fn all<R: Files + Input + Print + Eprint + Alloc>(
+    rt: &R,
+    path: &[u8],
+    csv: bool,
+) -> io::Result<()> {
+    if path.len() == 0 {
+        return of(rt, &mut rt.reader(), csv);
+    }
+    match host::open_read(rt, path) {
+        Ok(mut file) => of(rt, &mut file, csv),
+        Err(error) => {
+            host::fail(rt, path, error);
+            Ok(())
+        }
+    }
+}
+
+fn main(rt: HostRuntime) -> io::Result<()> {
+    let mut word = host::buffer();
+    let mut path = host::buffer();
+    let w = host::arg(&rt, 1, &mut word);
+    let p = host::arg(&rt, 2, &mut path);
+    let csv = check::same(&word[..w], b"--csv");
+    let count = host::arg_count(&rt);
+    if count > 3 || count == 3 && !csv {
+        host::say(&rt, "usage: records [--csv] [FILE]\n");
+        return Ok(());
     }
     if csv {
-        print_columns();
+        return all(&rt, &path[..p], true);
     }
-    run(fd, csv);
-    if libc::read(fd, &mut byte) < 0 {
-        os::fail(b"records: reading");
-    }
-}
-
-fn main() {
-    let mut word = io::buffer();
-    let mut path = io::buffer();
-    let w = os::arg(1, &mut word);
-    let p = os::arg(2, &mut path);
-    let csv = check::same(&word[..w], b"--csv");
-    if os::arg_count() > 3 || os::arg_count() == 3 && !csv {
-        io::write_all(STDERR_FILENO, b"usage: records [--csv] [FILE]\n");
-    } else if csv {
-        all(&path[..p], true);
-    } else {
-        all(&word[..w], false);
-    }
+    all(&rt, &word[..w], false)
 }

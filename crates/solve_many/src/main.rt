@@ -9,14 +9,17 @@
 // what was solved before is written. An input or an output that fails is said there too. On a terminal a line there
 // tells how far it is.
 //
-// A program of the language has no exit status. With --status it writes how it ended to descriptor 3, one digit, from
-// which the scripts ./solve_many and mlat-solve-many make theirs: 0 at the stream's end, 3 within a problem, 4 where
-// the input cannot be read, 5 where the output is not taken.
+// With --status it writes how it ended to descriptor 3, one digit, from which the scripts ./solve_many and
+// mlat-solve-many make their exit status: 0 at the stream's end, 3 within a problem, 4 where the input cannot be read,
+// 5 where the output is not taken.
 #![tactic(auto)]
 
 ghost use Rattle.std.specs.Prelude.{◌≤◌};
 
-use libc::{STDERR_FILENO, STDIN_FILENO, STDOUT_FILENO};
+use std::fs::OpenOptions;
+use std::io;
+use std::io::{IsTerminal, Read, Write};
+use std::rt::{Clock, Files};
 use stream::Head;
 
 // A proved loop has to end, and nothing says that a stream does: no stream has this many problems.
@@ -39,8 +42,8 @@ const UNWRITTEN: u64 = 5;
 
 const GOES_ON: u64 = 9;
 
-// Where its digit goes.
-const STATUS_FILENO: i32 = 3;
+// Where its digit goes: descriptor 3.
+const STATUS: &str = "/dev/fd/3";
 
 // What became of the next problem: its answer number, or how the stream ends; and how many of its bytes came.
 #[derive(Clone, Copy)]
@@ -67,14 +70,6 @@ struct Watch {
     last: u64,
 }
 
-fn print(text: &[u8]) {
-    io::write_all(STDERR_FILENO, text);
-}
-
-fn print_number(number: u64) {
-    io::print_decimal(STDERR_FILENO, number);
-}
-
 // ---- reading
 
 fn least(a: usize, b: usize) -> usize
@@ -87,7 +82,7 @@ fn least(a: usize, b: usize) -> usize
 }
 
 // Reads n bytes to `body` from byte `at` on. How many came: none where there is no room.
-fn read_to(body: &mut [u8], at: usize, n: usize) -> usize {
+fn read_to(input: &mut impl Read, body: &mut [u8], at: usize, n: usize) -> usize {
     let room = body.len();
     if at > room {
         return 0;
@@ -96,24 +91,24 @@ fn read_to(body: &mut [u8], at: usize, n: usize) -> usize {
         return 0;
     }
     let end = at + n;
-    io::read_full(STDIN_FILENO, &mut body[at..end])
+    host::read_full(input, &mut body[at..end])
 }
 
 // Passes over n bytes, or a block of them. How many came.
-fn some_passed(n: usize) -> usize
+fn some_passed(input: &mut impl Read, n: usize) -> usize
     ensures { result ≤ n }
 {
     let mut block = [0u8; BLOCK];
-    least(read_to(&mut block, 0, least(n, BLOCK)), n)
+    least(read_to(input, &mut block, 0, least(n, BLOCK)), n)
 }
 
 // Passes over n bytes. How many came.
-fn passed(n: usize) -> usize
+fn passed(input: &mut impl Read, n: usize) -> usize
     ensures { result ≤ n }
 {
     let mut left = n;
     while left > 0 {
-        let came = some_passed(left);
+        let came = some_passed(input, left);
         if came == 0 {
             return n - left;
         }
@@ -123,15 +118,15 @@ fn passed(n: usize) -> usize
 }
 
 // Reads an input of `size` bytes, of which `kept` are kept, to `body` from byte `at` on. How many came.
-fn read_input(body: &mut [u8], at: usize, kept: usize, size: usize) -> u64 {
-    let came = read_to(body, at, kept);
+fn read_input(input: &mut impl Read, body: &mut [u8], at: usize, kept: usize, size: usize) -> u64 {
+    let came = read_to(input, body, at, kept);
     if came < kept {
         return came as u64;
     }
     if size <= kept {
         return came as u64;
     }
-    std::num::wrapping_add_u64(came as u64, passed(size - kept) as u64)
+    std::num::wrapping_add_u64(came as u64, passed(input, size - kept) as u64)
 }
 
 // How many bytes the inputs have.
@@ -141,24 +136,31 @@ fn bytes_of(head: Head) -> usize {
 }
 
 // Reads the inputs, of which so much is kept. How many bytes came: fewer than they have where the stream ends.
-fn read_inputs(body: &mut [u8], head: Head, kept: Head) -> u64 {
+fn read_inputs(input: &mut impl Read, body: &mut [u8], head: Head, kept: Head) -> u64 {
     let all = bytes_of(head);
     if bytes_of(kept) == all {
-        return read_to(body, 0, all) as u64;
+        return read_to(input, body, 0, all) as u64;
     }
     let clock = stream::size_of(kept.receptions);
     let altitude = clock + stream::size_of(kept.clock);
     let reference = altitude + stream::size_of(kept.altitude);
-    let a = read_input(body, 0, clock, stream::size_of(head.receptions));
-    let b = read_input(body, clock, altitude - clock, stream::size_of(head.clock));
+    let a = read_input(input, body, 0, clock, stream::size_of(head.receptions));
+    let b = read_input(
+        input,
+        body,
+        clock,
+        altitude - clock,
+        stream::size_of(head.clock),
+    );
     let c = read_input(
+        input,
         body,
         altitude,
         reference - altitude,
         stream::size_of(head.altitude),
     );
     let k = stream::size_of(kept.reference);
-    let d = read_input(body, reference, k, stream::size_of(head.reference));
+    let d = read_input(input, body, reference, k, stream::size_of(head.reference));
     let two = std::num::wrapping_add_u64(a, b);
     std::num::wrapping_add_u64(two, std::num::wrapping_add_u64(c, d))
 }
@@ -166,14 +168,13 @@ fn read_inputs(body: &mut [u8], head: Head, kept: Head) -> u64 {
 // ---- solving
 
 // The end of a stream of whose next problem so many bytes came. A failing read is told from the end.
-fn ended(bytes: u64) -> Step {
-    let mut byte = [0u8; 1];
+fn ended<R: Eprint + Alloc>(rt: &R, input: &mut impl Read, bytes: u64) -> Step {
     let mut end = TORN;
     if bytes == 0 {
         end = ENDED;
     }
-    if libc::read(STDIN_FILENO, &mut byte) < 0 {
-        os::fail(b"solve_many: standard input");
+    if let Some(error) = host::read_error(input) {
+        host::fail(rt, b"solve_many: standard input", error);
         end = UNREAD;
     }
     Step {
@@ -184,47 +185,47 @@ fn ended(bytes: u64) -> Step {
 }
 
 // Writes a record. Whether the stream goes on; where it cannot be written, that is said.
-fn written(out: &[u8], number: u32, bytes: u64) -> Step {
+fn written<R: Print + Eprint + Alloc>(rt: &R, out: &[u8], number: u32, bytes: u64) -> Step {
     let mut end = GOES_ON;
-    if !io::write_all(STDOUT_FILENO, out) {
-        os::fail(b"solve_many: standard output");
+    if let Err(error) = rt.write_all(out) {
+        host::fail(rt, b"solve_many: standard output", error);
         end = UNWRITTEN;
     }
     Step { end, number, bytes }
 }
 
 // Reads, solves and writes a problem of these lengths.
-fn solve(head: Head) -> Step {
+fn solve<R: Print + Eprint + Alloc>(rt: &R, input: &mut impl Read, head: Head) -> Step {
     let mut body = [0u8; ROOM];
     let mut out = [0u8; 176];
     let kept = stream::kept(head);
-    let came = read_inputs(&mut body, head, kept);
+    let came = read_inputs(input, &mut body, head, kept);
     let bytes = std::num::wrapping_add_u64(16, came);
     if came < bytes_of(head) as u64 {
-        return ended(bytes);
+        return ended(rt, input, bytes);
     }
     let solved = stream::solve_body(kept, &body, &mut out);
-    written(&out, solved.number, bytes)
+    written(rt, &out, solved.number, bytes)
 }
 
 // The next problem.
-fn next() -> Step {
+fn next<R: Print + Eprint + Alloc>(rt: &R, input: &mut impl Read) -> Step {
     let mut lengths = [0u8; 16];
-    let n = io::read_full(STDIN_FILENO, &mut lengths);
+    let n = host::read_full(input, &mut lengths);
     if n < 16 {
-        return ended(n as u64);
+        return ended(rt, input, n as u64);
     }
-    solve(stream::head_of(&lengths))
+    solve(rt, input, stream::head_of(&lengths))
 }
 
 // ---- telling
 
-// Seconds since 1970, by the word that holds them.
-fn seconds() -> u64 {
-    let mut t = 0i64;
-    let mut word = [0u8; 8];
-    words::put_i64(&mut word, 0, libc::time(&mut t));
-    words::u64_at(&word, 0)
+// Seconds since 1970, or 0 where no clock tells them.
+fn seconds(rt: &impl Clock) -> u64 {
+    match rt.since_1970() {
+        Ok(time) => time.as_secs(),
+        Err(_) => 0,
+    }
 }
 
 fn each_second(done: Done, start: u64, now: u64) -> u64 {
@@ -234,26 +235,23 @@ fn each_second(done: Done, start: u64, now: u64) -> u64 {
     done.problems / (now - start)
 }
 
-fn print_done(done: Done, start: u64, now: u64) {
-    print(b"\rsolve_many: ");
-    print_number(done.fixes);
-    print(b" fixes, ");
-    print_number(done.refused);
-    print(b" refused, ");
-    print_number(each_second(done, start, now));
-    print(b" a second");
+fn print_done(rt: &impl Eprint, done: Done, start: u64, now: u64) {
+    let fixes = done.fixes;
+    let refused = done.refused;
+    let each = each_second(done, start, now);
+    let _ = eprint!(rt; "\rsolve_many: {fixes} fixes, {refused} refused, {each} a second");
 }
 
 // Tells how far it is, on a terminal, if a second has passed since.
-fn told(watch: Watch, done: Done) -> Watch {
+fn told(rt: &(impl Clock + Eprint), watch: Watch, done: Done) -> Watch {
     if !watch.terminal {
         return watch;
     }
-    let now = seconds();
+    let now = seconds(rt);
     if now == watch.last {
         return watch;
     }
-    print_done(done, watch.start, now);
+    print_done(rt, done, watch.start, now);
     Watch {
         terminal: true,
         start: watch.start,
@@ -262,24 +260,24 @@ fn told(watch: Watch, done: Done) -> Watch {
 }
 
 // Says where a stream is torn.
-fn print_torn(done: Done, step: Step) {
-    print(b"solve_many: the stream ends within the problem at place ");
-    print_number(done.problems);
-    print(b", which begins at byte ");
-    print_number(done.bytes);
-    print(b": ");
-    print_number(step.bytes);
-    print(b" bytes of it are there\n");
+fn print_torn(rt: &impl Eprint, done: Done, step: Step) {
+    let place = done.problems;
+    let begins = done.bytes;
+    let there = step.bytes;
+    let _ = eprintln!(rt;
+        "solve_many: the stream ends within the problem at place {place}, which begins at byte {begins}: {there} bytes \
+        of it are there"
+    );
 }
 
 // The last words, and how the stream ended.
-fn last(watch: Watch, done: Done, step: Step) -> u64 {
+fn last(rt: &(impl Clock + Eprint), watch: Watch, done: Done, step: Step) -> u64 {
     if watch.terminal {
-        print_done(done, watch.start, seconds());
-        print(b"\n");
+        print_done(rt, done, watch.start, seconds(rt));
+        host::say(rt, "\n");
     }
     if step.end == TORN {
-        print_torn(done, step);
+        print_torn(rt, done, step);
     }
     step.end
 }
@@ -307,8 +305,8 @@ fn with(done: Done, step: Step, problems: u64) -> Done {
 }
 
 // Solves problem after problem, to the stream's end. How it ended.
-fn run(terminal: bool) -> u64 {
-    let now = seconds();
+fn run<R: Clock + Print + Eprint + Alloc>(rt: &R, input: &mut impl Read, terminal: bool) -> u64 {
+    let now = seconds(rt);
     let mut watch = Watch {
         terminal,
         start: now,
@@ -322,29 +320,36 @@ fn run(terminal: bool) -> u64 {
     };
     let mut problems = 0;
     while problems < MOST {
-        let step = next();
+        let step = next(rt, input);
         if step.end != GOES_ON {
-            return last(watch, done, step);
+            return last(rt, watch, done, step);
         }
         problems += 1;
         let more = with(done, step, problems);
         done = more;
-        let later = told(watch, done);
+        let later = told(rt, watch, done);
         watch = later;
     }
     ENDED
 }
 
-fn main() {
+// Writes the digit of how the stream ended, where descriptor 3 is open.
+fn write_status(rt: &impl Files, end: u64) -> io::Result<()> {
+    let mut file = OpenOptions::new().append(true).open(rt, STATUS)?;
+    write!(file, "{end}")
+}
+
+fn main(rt: HostRuntime) {
     let mut word = [0u8; 16];
-    let n = os::arg(1, &mut word);
+    let n = host::arg(&rt, 1, &mut word);
     let status = check::same(&word[..n], b"--status");
-    if os::arg_count() > 2 || os::arg_count() == 2 && !status {
-        print(b"usage: solve_many [--status] <STREAM >RECORDS\n");
+    let count = host::arg_count(&rt);
+    if count > 2 || count == 2 && !status {
+        host::say(&rt, "usage: solve_many [--status] <STREAM >RECORDS\n");
         return;
     }
-    let end = run(libc::isatty(STDERR_FILENO) == 1);
+    let end = run(&rt, &mut rt.stdin(), rt.stderr().is_terminal());
     if status {
-        io::print_decimal(STATUS_FILENO, end);
+        let _ = write_status(&rt, end);
     }
 }

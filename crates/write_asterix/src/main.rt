@@ -12,7 +12,8 @@
 ghost use Rattle.std.specs.Prelude.{◌≤◌, ◌≡◌, length};
 ghost use Rattle.write_asterix.specs.Exports.{items_of_wire, items_of};
 
-use libc::{STDERR_FILENO, STDOUT_FILENO};
+use std::io::Read;
+use std::rt::Files;
 use wire::{Wire, Written};
 
 // A proved loop has to end, and nothing says that a file does: no file has this many records.
@@ -44,24 +45,18 @@ struct Items {
     bytes: [u8; 10],
 }
 
-fn print(text: &[u8]) {
-    io::write_all(STDERR_FILENO, text);
-}
-
-fn print_number(number: u64) {
-    io::print_decimal(STDERR_FILENO, number);
-}
-
 // Writes the items, if that is asked. Whether nothing fails; where it does, that is said.
-fn shown(items: &[u8], asked: bool) -> bool {
+fn shown<R: Print + Eprint + Alloc>(rt: &R, items: &[u8], asked: bool) -> bool {
     if !asked {
         return true;
     }
-    if io::write_all(STDOUT_FILENO, items) {
-        return true;
+    match rt.write_all(items) {
+        Ok(()) => true,
+        Err(error) => {
+            host::fail(rt, b"write_asterix: standard output", error);
+            false
+        }
     }
-    os::fail(b"write_asterix: standard output");
-    false
 }
 
 // The wire's numbers as items.
@@ -91,11 +86,11 @@ fn items_of(bytes: &[u8]) -> Items
 }
 
 // Writes the items of a record, if that is asked.
-fn placed(bytes: &[u8], write: bool) -> Step {
+fn placed<R: Print + Eprint + Alloc>(rt: &R, bytes: &[u8], write: bool) -> Step {
     let found = items_of(bytes);
     let refusal = found.refusal;
     let items = found.bytes;
-    let done = shown(&items, write && refusal == 0);
+    let done = shown(rt, &items, write && refusal == 0);
     Step {
         ended: bytes.len() == 0,
         refusal,
@@ -104,10 +99,10 @@ fn placed(bytes: &[u8], write: bool) -> Step {
 }
 
 // The next record of the file.
-fn next(fd: i32, write: bool) -> Step {
+fn next<R: Print + Eprint + Alloc>(rt: &R, file: &mut impl Read, write: bool) -> Step {
     let mut bytes = [0u8; 176];
-    let n = io::read_full(fd, &mut bytes);
-    placed(&bytes[..n], write)
+    let n = host::read_full(file, &mut bytes);
+    placed(rt, &bytes[..n], write)
 }
 
 // 1 where a record of this number is passed over, since it holds no fix or a position beyond the wire or the items.
@@ -145,13 +140,13 @@ fn stopped(records: u64, passed: u64, step: Step) -> Stop
 }
 
 // Goes through the records of the file up to its end, or to the first that is torn or malformed.
-fn run(fd: i32, write: bool) -> Stop
+fn run<R: Print + Eprint + Alloc>(rt: &R, file: &mut impl Read, write: bool) -> Stop
     ensures { result.passed ≤ result.records }
 {
     let mut records = 0;
     let mut passed = 0;
     while records < MOST {
-        let step = next(fd, write);
+        let step = next(rt, file, write);
         if !goes_on(step) {
             return stopped(records, passed, step);
         }
@@ -167,73 +162,76 @@ fn run(fd: i32, write: bool) -> Stop
 }
 
 // Closes the file. Whether reading on in it does not fail; where it does, that is said.
-fn closed(fd: i32, path: &[u8]) -> bool {
-    let mut byte = [0u8; 1];
-    let read = libc::read(fd, &mut byte) >= 0;
-    if !read {
-        os::fail(path);
+fn closed<R: Eprint + Alloc>(rt: &R, mut file: impl Read + Drop, path: &[u8]) -> bool {
+    match host::read_error(&mut file) {
+        None => true,
+        Some(error) => {
+            host::fail(rt, path, error);
+            false
+        }
     }
-    libc::close(fd);
-    read
 }
 
-fn print_reason(refusal: u32) {
+fn reason(refusal: u32) -> &'static str {
     if refusal == refusals::TORN_FILE {
-        print(b", torn file: it is not whole\n");
+        "torn file: it is not whole"
     } else {
-        print(b", malformed record: it breaks a rule that every fix record meets\n");
+        "malformed record: it breaks a rule that every fix record meets"
     }
 }
 
 // Says which record was turned away, if one was. Whether none was.
-fn whole(stop: Stop) -> bool {
+fn whole(rt: &impl Eprint, stop: Stop) -> bool {
     if stop.refusal == 0 {
         return stop.shown;
     }
-    print(b"write_asterix: the record at place ");
-    print_number(stop.records);
-    print(b" is turned away by ");
-    print_number(stop.refusal as u64);
-    print_reason(stop.refusal);
+    let place = stop.records;
+    let refusal = stop.refusal;
+    let reason = reason(refusal);
+    let _ = eprintln!(rt;
+        "write_asterix: the record at place {place} is turned away by {refusal}, {reason}"
+    );
     false
 }
 
-fn print_counts(stop: Stop)
+fn print_counts(rt: &impl Eprint, stop: Stop)
     requires { stop.passed ≤ stop.records }
 {
-    print(b"write_asterix: ");
-    print_number(stop.records);
-    print(b" records, ");
-    print_number(stop.records - stop.passed);
-    print(b" written, ");
-    print_number(stop.passed);
-    print(b" passed over (no fix, or beyond the wire)\n");
+    let records = stop.records;
+    let written = stop.records - stop.passed;
+    let passed = stop.passed;
+    let _ = eprintln!(rt;
+        "write_asterix: {records} records, {written} written, {passed} passed over (no fix, or beyond the wire)"
+    );
 }
 
 // Goes through the file once, and writes its items and says how many, if that is asked. Whether every record is sound.
-fn pass(path: &[u8], write: bool) -> bool {
-    let fd = os::open_read(path);
-    if fd < 0 {
-        os::fail(path);
-        return false;
+fn pass<R: Files + Print + Eprint + Alloc>(rt: &R, path: &[u8], write: bool) -> bool {
+    match host::open_read(rt, path) {
+        Ok(mut file) => {
+            let stop = run(rt, &mut file, write);
+            let read = closed(rt, file, path);
+            if !read || !whole(rt, stop) {
+                return false;
+            }
+            if write {
+                print_counts(rt, stop);
+            }
+            true
+        }
+        Err(error) => {
+            host::fail(rt, path, error);
+            false
+        }
     }
-    let stop = run(fd, write);
-    let read = closed(fd, path);
-    if !read || !whole(stop) {
-        return false;
-    }
-    if write {
-        print_counts(stop);
-    }
-    true
 }
 
-fn main() {
-    let mut path = io::buffer();
-    let p = os::arg(1, &mut path);
-    if os::arg_count() != 2 {
-        print(b"usage: write_asterix FILE\n");
-    } else if pass(&path[..p], false) {
-        pass(&path[..p], true);
+fn main(rt: HostRuntime) {
+    let mut path = host::buffer();
+    let p = host::arg(&rt, 1, &mut path);
+    if host::arg_count(&rt) != 2 {
+        host::say(&rt, "usage: write_asterix FILE\n");
+    } else if pass(&rt, &path[..p], false) {
+        pass(&rt, &path[..p], true);
     }
 }
