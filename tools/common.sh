@@ -11,11 +11,12 @@ here=$(dirname "$(readlink -f "$0" 2>/dev/null || echo "$0")")
 root=$(cd "$here" && pwd)
 
 # However the script ends, by itself, a signal or a closed pipe: no prover, lock or temporary folder is left.
-prover='' lock='' room='' work=''
+prover='' lock='' room='' beside='' work=''
 ended() {
     [ -z "$prover" ] || kill -s TERM -- "-$prover" 2>/dev/null || :
     [ -z "$lock" ] || rm -f "$lock"
     [ -z "$room" ] || rm -rf "$room"
+    [ -z "$beside" ] || rm -rf "$beside"
     [ -z "$work" ] || rm -rf "$work"
 }
 trap ended EXIT
@@ -73,7 +74,8 @@ problem() {
     exit 2
 }
 
-# need COMMAND..: the commands, and the kit's, are on the PATH, and target/ can be written.
+# need COMMAND..: the commands, and the kit's, are on the PATH, and target/ and the crates' folders can be written.
+# shellcheck disable=SC2120
 need() {
     for command in rt "$@"; do
         if ! command -v "$command" >/dev/null 2>&1; then
@@ -83,9 +85,15 @@ need() {
         fi
     done
     if ! mkdir -p "$root/target/log" 2>/dev/null || [ ! -w "$root/target/log" ]; then
-        echo "$0: $root/target cannot be written, and what is proved and built goes there" >&2
+        echo "$0: $root/target cannot be written, and what is built goes there" >&2
         exit 2
     fi
+    for path in "$root"/crates/*; do
+        if [ ! -w "$path" ]; then
+            echo "$0: $path cannot be written, and what is proved there goes into its out/" >&2
+            exit 2
+        fi
+    done
 }
 
 # numbers MOST WORD..: whole numbers above 0, of up to twelve digits, MOST of them at most, or the usage.
@@ -131,37 +139,51 @@ soname() {
     echo "libmlat_solver.so.$major"
 }
 
-# library NAME [FOLDER]: proves the crate NAME of the repository in FOLDER (this one) and builds it as a static library, where that is older than its files.
+# library NAME: proves the crate NAME and builds it as a static library, target/staticlib/libNAME.a, where that is older than its files. What C sees of
+# mlat_solver is a crate of its own, mlat_solver_c.
 library() {
-    folder=${2:-.}
+    crate=$1
+    [ "$crate" != mlat_solver ] || crate=mlat_solver_c
     # shellcheck disable=SC2046
-    stale "$folder/target/staticlib/lib$1.a" "$folder/crates.txt" $(uses "$folder" "$1") || return 0
-    proving "$folder" staticlib "$1"
+    stale "target/staticlib/lib$1.a" crates.txt $(uses . "$crate") || return 0
+    # shellcheck disable=SC2119
+    need
+    proving . lib "$crate"
+    archived . "$crate" "target/staticlib/lib$1.a"
 }
 
-# program NAME: proves and builds the program NAME of the repository, where it is older than its files.
-program() {
-    # shellcheck disable=SC2046
-    stale "target/bin/$1" crates.txt $(uses . "$1") || return 0
-    need
-    # what rt takes for proved it does not build again
-    [ -f "target/bin/$1" ] || rm -f "target/stamp/$1"
-    proving . check "$1"
-    if [ ! -x "target/bin/$1" ]; then
-        echo "$0: rt check $1 gave no $root/target/bin/$1" >&2
+# archived FOLDER CRATE ARCHIVE: puts the static library that rt built of FOLDER's crate where ARCHIVE says, whole or not at all.
+archived() {
+    if [ ! -f "$1/crates/$2/out/lib$2.a" ]; then
+        echo "$0: rt lib gave no $1/crates/$2/out/lib$2.a" >&2
         exit 1
     fi
-    # rt goes by what files hold: one that only looks newer needs no proof the next time
-    touch "target/bin/$1"
+    mkdir -p "${3%/*}"
+    cp "$1/crates/$2/out/lib$2.a" "$3.$$"
+    mv "$3.$$" "$3"
 }
 
-# alone FOLDER: has FOLDER's target/ to this script, once no other has it. The lock is a link to the number of its process.
+# program NAME: proves and builds the program NAME, crates/NAME/out/NAME, where it is older than its files.
+program() {
+    # shellcheck disable=SC2046
+    stale "crates/$1/out/$1" crates.txt $(uses . "$1") || return 0
+    # shellcheck disable=SC2119
+    need
+    proving . run "$1"
+    # rt goes by what files hold: one that only looks newer needs no proof the next time
+    touch "crates/$1/out/$1"
+}
+
+# alone FOLDER: has FOLDER's target/ to this script, once no other has it. The lock is a file with the number of its process (no link: rt ci refuses a
+# repository with one).
 alone() {
     waits=
     mkdir -p "$1/target/log"
-    while ! ln -s "$$" "$1/target/proving" 2>/dev/null; do
-        other=$(readlink "$1/target/proving") || continue
-        if [ ! -d "/proc/$other" ] && ! kill -0 "$other" 2>/dev/null; then
+    own=$1/target/log/proving.$$
+    echo "$$" >"$own"
+    while ! ln "$own" "$1/target/proving" 2>/dev/null; do
+        other=$(cat "$1/target/proving" 2>/dev/null) || continue
+        if [ -n "$other" ] && [ ! -d "/proc/$other" ] && ! kill -0 "$other" 2>/dev/null; then
             rm -f "$1/target/proving"
             continue
         fi
@@ -169,6 +191,7 @@ alone() {
         waits=yes
         sleep 1
     done
+    rm -f "$own"
     lock=$1/target/proving
 }
 
@@ -178,22 +201,20 @@ shared() {
     lock=
 }
 
-# proving FOLDER COMMAND CRATE..: `rt COMMAND CRATE..` in FOLDER. Each crate that is proved anew is said on standard error, as
-# '7 of 21: geo, 13 s'; where rt fails, all that it said is.
+# proving FOLDER COMMAND CRATE: `rt COMMAND` in the folder of FOLDER's crate. Each crate that is proved anew is said on standard error, as 'proved: geo, 13 s';
+# where rt fails, all that it said is. What a program says that `rt run` runs once it is built, on no input, is not heard.
 proving() {
-    where=$1
-    shift
-    echo "$0: proving and building $(shift && echo "$*")" >&2
+    where=$1 command=$2 built=$3
+    echo "$0: proving and building $built" >&2
     alone "$where"
-    said=$where/target/log/proving
+    said=$(cd "$where" && pwd)/target/log/proving
     : >"$said"
-    all=$(shift && uses "$where" "$@" | wc -l | tr -d ' ')
     # rt's own temporary folders go here; it runs programs as nobody, who has to get in
     room=$(mktemp -d)
     chmod 755 "$room"
-    (cd "$where" && TMPDIR=$room exec setsid rt "$@") >"$said" 2>&1 &
+    (cd "$where/crates/$built" && TMPDIR=$room exec setsid rt "$command") >"$said" 2>&1 </dev/null &
     prover=$!
-    told=0
+    told=0 since=$(date +%s)
     while kill -0 "$prover" 2>/dev/null; do
         tell
         sleep 1
@@ -204,6 +225,8 @@ proving() {
     tell
     rm -rf "$room"
     room=
+    # the status under `rt run` is the program's own, and the stamp says that it was proved and built
+    [ "$command" != run ] || [ ! -f "$where/crates/$built/out/$built.stamp" ] || status=0
     if [ "$status" -ne 0 ]; then
         cat "$said" >&2
         exit 1
@@ -213,40 +236,47 @@ proving() {
 
 # tell: what `proving` has to say since it last did.
 tell() {
-    heard=$(grep -c '^rt: [a-z0-9_]* proved (' "$said" || :)
-    awk -v all="$all" -v told="$told" -v heard="$heard" '
-        /^rt: [a-z0-9_]+ proved \(/ { k++ }
-        /^rt: [a-z0-9_]+ proved \([0-9]+ s\)$/ && k > told && k <= heard {
-            printf "%d of %d: %s, %d s\n", k, all, $2, substr($4, 2)
-        }
-    ' "$said" >&2
-    told=$heard
+    heard=$(LC_ALL=C grep -a -c '^logic=proved' "$said" || :)
+    [ "$heard" -gt "$told" ] || return 0
+    now=$(date +%s)
+    LC_ALL=C grep -a -E '^(crate [a-z0-9_]+: |logic=proved)' "$said" |
+        awk -v told="$told" -v heard="$heard" -v seconds=$((now - since)) '
+            /^crate / { name = $2; sub(/:$/, "", name) }
+            /^logic=/ && ++k > told && k <= heard { printf "proved: %s, %d s\n", name, seconds }
+        ' >&2
+    told=$heard since=$now
 }
 
-# c_names FOLDER FILES NAME DEP..: inner functions under C names, as a static library. It is the crate NAME, whose files are those below FILES/NAME with .txt at
-# their ends, in a repository in FOLDER beside copies of the crates that it uses. What is proved here of those is not proved again.
+# c_names FOLDER FILES NAME DEP..: inner functions under C names, as the static library FOLDER/target/staticlib/libNAME.a. It is the crate NAME, whose files are those below FILES/NAME
+# with .txt at their ends, in a repository outside this one beside copies of the crates that it uses. What is proved here of those is not proved again.
 c_names() {
     to=$1 files=$2 name=$3
     shift 3
     # shellcheck disable=SC2046
     stale "$to/target/staticlib/lib$name.a" crates.txt "$files/$name" $(uses . "$@") || return 0
-    proving . check "$@"
-    rm -rf "$to/crates" "$to/target"
-    mkdir -p "$to/crates" "$to/target/stamp" "$to/target/rlib"
+    # shellcheck disable=SC2119
+    need
+    for crate in "$@"; do
+        proving . lib "$crate"
+    done
+    beside=$(mktemp -d)
     for path in $(uses . "$@"); do
         crate=${path##*/}
-        cp -R "$path" "$to/crates/"
-        rm -rf "$to/crates/$crate/must-fail"
-        cp "target/stamp/$crate" "$to/target/stamp/"
-        cp -R "target/rlib/$crate.rlib" "$to/target/rlib/"
+        mkdir -p "$beside/crates/$crate/out"
+        for part in src specs proofs out/rlib; do
+            [ ! -d "$path/$part" ] || cp -R "$path/$part" "$beside/crates/$crate/$part"
+        done
         grep "^$crate:" crates.txt
-    done >"$to/crates.txt"
+    done >"$beside/crates.txt"
     (cd "$files" && find "$name" -name '*.txt') | while read -r file; do
-        mkdir -p "$to/crates/$(dirname "$file")"
-        cp "$files/$file" "$to/crates/${file%.txt}"
+        mkdir -p "$beside/crates/$(dirname "$file")"
+        cp "$files/$file" "$beside/crates/${file%.txt}"
     done
-    echo "$name: $*" >>"$to/crates.txt"
-    library "$name" "$to"
+    echo "$name staticlib: $*" >>"$beside/crates.txt"
+    proving "$beside" lib "$name"
+    archived "$beside" "$name" "$to/target/staticlib/lib$name.a"
+    rm -rf "$beside"
+    beside=
 }
 
 # stale ARCHIVE PATH..: whether it is not there, or a file below a path is newer.
@@ -260,7 +290,8 @@ stale() {
 uses() {
     awk -v folder="$1" -v wanted="$*" '
         { sub(/#.*/, "") }
-        match($0, /:/) { deps[substr($0, 1, RSTART - 1)] = substr($0, RSTART + 1) }
+        # NAME: DEP .., or NAME staticlib: DEP ..
+        match($0, /:/) { name = $1; sub(/:.*/, "", name); deps[name] = substr($0, RSTART + 1) }
         END {
             n = split(wanted, todo, " ")
             for (i = 2; i <= n; i++) {

@@ -3,36 +3,31 @@
 // read is said on standard error, and then nothing is printed; so is an output that fails.
 #![tactic(auto)]
 
-use libc::{STDERR_FILENO, STDIN_FILENO, STDOUT_FILENO};
+use std::io::Read;
 
 // Whether reading on does not fail; where it does, that is said.
-fn sound() -> bool {
-    let mut byte = [0u8; 1];
-    let read = libc::read(STDIN_FILENO, &mut byte) >= 0;
-    if !read {
-        os::fail(b"check_record: standard input");
-    }
-    read
+fn sound<R: Eprint + Alloc>(rt: &R, input: &mut impl Read) -> bool {
+    host::sound(rt, input, b"check_record: standard input")
 }
 
-fn print(refusal: u32) {
-    if io::print_decimal(STDOUT_FILENO, refusal as u64) {
-        if io::write_all(STDOUT_FILENO, b"\n") {
-            return;
-        }
-    }
-    os::fail(b"check_record: standard output");
+fn print<R: Print + Eprint + Alloc>(rt: &R, refusal: u32) {
+    host::written(
+        rt,
+        println!(rt; "{refusal}"),
+        b"check_record: standard output",
+    );
 }
 
-fn main() {
+fn main(rt: HostRuntime) {
+    let mut input = rt.stdin();
     let mut bytes = [0u8; 177];
-    if os::arg_count() > 1 {
-        io::write_all(STDERR_FILENO, b"usage: check_record <RECORD\n");
+    if host::arg_count(&rt) > 1 {
+        host::say(&rt, "usage: check_record <RECORD\n");
     } else {
-        let n = io::read_full(STDIN_FILENO, &mut bytes);
+        let n = host::read_full(&mut input, &mut bytes);
         let reading = reader::read(&bytes[..n]);
-        if sound() {
-            print(reading.refusal);
+        if sound(&rt, &mut input) {
+            print(&rt, reading.refusal);
         }
     }
 }

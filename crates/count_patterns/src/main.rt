@@ -13,13 +13,17 @@ use lines::line_of;
 use std::io;
 use text::Text;
 
+fn say(rt: &impl Print, words: &[u8]) -> io::Result<()> {
+    rt.write_all(words)
+}
+
 // Prints a line.
 fn print(rt: &impl Print, line: Text) -> io::Result<()>
     requires { (length line.bytes ≡ 512) × (line.n ≤ 512) }
 {
     let bytes = line.bytes;
     let n = line.n;
-    rt.write_all(&bytes[..n])
+    say(rt, &bytes[..n])
 }
 
 // The line of n receptions, whose patterns are `all`: 2 to the number of pairs.
@@ -29,13 +33,15 @@ fn line(rt: &impl Print, n: u32, all: u64) -> io::Result<()>
     print(rt, line_of(n, all))
 }
 
-// The table, to the first line that is not written.
+// The table, up to the first line that cannot be written.
 fn print_table(rt: &impl Print) -> io::Result<()> {
-    rt.print(
-        "Of all patterns of failing pairs, how many leave 0 to 6 survivors of the screen:\n\n",
+    say(
+        rt,
+        b"Of all patterns of failing pairs, how many leave 0 to 6 survivors of the screen:\n\n",
     )?;
-    rt.print(
-        "receptions  patterns       0       1       2       3       4       5       6  four or more\n",
+    say(
+        rt,
+        b"receptions  patterns       0       1       2       3       4       5       6  four or more\n",
     )?;
     line(rt, 0, 1)?;
     line(rt, 1, 1)?;
@@ -49,7 +55,7 @@ fn print_table(rt: &impl Print) -> io::Result<()> {
 fn main(rt: HostRuntime) {
     if host::arg_count(&rt) > 1 {
         host::say(&rt, "usage: count_patterns, without arguments\n");
-    } else if let Err(error) = print_table(&rt) {
-        host::fail(&rt, b"count_patterns: standard output", error);
+    } else {
+        host::written(&rt, print_table(&rt), b"count_patterns: standard output");
     }
 }

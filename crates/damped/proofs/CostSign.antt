@@ -1,6 +1,6 @@
 -- The cost of a fit is a value of binary64 with its sign clear, or no number: it is a sum of squares from plus zero. Assumes nothing.
 use mathlib.Core.Path.{◌≡◌, sym, subst}
-use mathlib.Core.Logic.{◌⊎◌, inl, inr}
+use mathlib.Core.Logic.{◌⊎◌, inl}
 use mathlib.Core.List.{List}
 use Prim.Native.Nat.{ℕ}
 use lib.Dec.{T}
@@ -11,7 +11,6 @@ use Rattle.binary64.proofs.Clear.{clear}
 use Rattle.whitening.specs.Whitened.{Chosen, Rows, whitened}
 use Rattle.whitening.specs.Normal.{normal_to, evaluated}
 use Rattle.whitening.proofs.Costs.{cost-is}
-use Rattle.damped.specs.declared.Fit.{Fit}
 use Rattle.damped.specs.Damped.{candidate, levenberg_marquardt}
 use Rattle.damped.proofs.Squares.{cost-clear, cost-fits}
 use Rattle.damped.proofs.Kept.{fit-keeps}

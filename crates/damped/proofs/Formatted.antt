@@ -6,7 +6,6 @@ use lib.Ieee.Fits.{add-fits}
 use Rattle.binary64.specs.Steps.{nought}
 use Rattle.whitening.specs.Whitened.{Chosen}
 use Rattle.whitening.proofs.Formatted.{Formatted, formatted}
-use Rattle.damped.specs.declared.Fit.{Fit}
 use Rattle.damped.specs.Damped.{candidate, levenberg_marquardt}
 use Rattle.damped.proofs.Kept.{fit-keeps}
 

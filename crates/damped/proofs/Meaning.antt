@@ -4,7 +4,7 @@ use mathlib.Core.Bool.{Bool, true, false, cond, ◌&&◌, false≢true}
 use mathlib.Core.List.{List}
 use Prim.Native.Nat.{ℕ, zero, suc, ◌+◌, ◌*◌, ◌<◌}
 use native.Mathlib.Omega.{arith}
-use lib.Dec.{T, not_T, ltb, ltb→lt, lt→ltb}
+use lib.Dec.{T, not_T, ltb→lt, lt→ltb}
 use lib.IntN.{ℤ, negsuc}
 use lib.ListN.{set, replicate}
 use lib.Ieee.{Float, nan, inf, fin, up, down, neg, lt, le, round, of_bits}

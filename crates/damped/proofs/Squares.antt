@@ -1,13 +1,13 @@
 -- Costs, which are sums of squares: no sign, and no less for a square more. Assumes nothing.
 use mathlib.Core.Path.{◌≡◌, refl, sym, ap, subst, ◌∙◌}
 use mathlib.Core.Logic.{◌⊎◌, inl, inr}
-use mathlib.Core.Bool.{Bool, true, false, not, cond, false≢true}
+use mathlib.Core.Bool.{true, false, false≢true}
 use mathlib.Core.List.{List}
 use Prim.Native.Nat.{ℕ, zero, suc, ◌+◌, ◌*◌, ◌^◌, ◌≤◌, ◌<◌}
 use native.Mathlib.Nat.{le_trans, le_of_eq, le-add_right, mul_assoc, mul_right_comm, mul-le-mul_right, mul-pos}
-use lib.Dec.{T, ltb}
+use lib.Dec.{T}
 use lib.Pow.{pow_pos}
-use lib.Ieee.{Float, Format, binary64, nan, inf, fin, up, down, round, units, odd, sum, add, mul, le, fits, of_bits, low, emax, prec}
+use lib.Ieee.{Float, binary64, nan, inf, fin, up, down, round, sum, add, mul, le, fits, of_bits}
 use lib.Ieee.Fits.{down_pos, round-fits, add-fits}
 use lib.Ieee.Bits.{of_bits-fits}
 use lib.Ieee.Exact.{round_exact}

@@ -1,16 +1,16 @@
 -- A fit whose transmit time is no number has a cost that is none: then no residual is a number, and the first square of the cost is none. So a fit
 -- whose cost is a number has a number for its transmit time. Assumes nothing.
-use mathlib.Core.Path.{◌≡◌, refl, sym, ap, subst, ◌∙◌}
+use mathlib.Core.Path.{◌≡◌, refl, ap, subst, ◌∙◌}
 use mathlib.Core.Logic.{◌≢◌}
-use mathlib.Core.Bool.{Bool, true, false, not}
+use mathlib.Core.Bool.{not}
 use mathlib.Core.List.{List}
 use Prim.Native.Nat.{ℕ, zero, suc, ◌+◌, ◌≤◌, ◌<◌}
 use native.Mathlib.Numerals.{add-one}
 use native.Mathlib.Omega.{arith}
 use lib.Dec.{T}
-use lib.ListN.{length, set, get_or, replicate}
+use lib.ListN.{length, set, replicate}
 use lib.Seq.{get_or-set_same, get_or-set_other}
-use lib.Ieee.{Float, nan, inf, fin, binary64, add, sub, div, is_nan, of_bits}
+use lib.Ieee.{Float, nan, inf, fin, binary64, add, sub, div, is_nan}
 use Rattle.binary64.specs.Steps.{◌⊕◌, ◌⊖◌, ◌⊗◌, ◌⊘◌, nought}
 use Rattle.binary64.proofs.Numbers.{none-add}
 use Rattle.dense.specs.Entries.{nth, at, minus_dots}
@@ -24,7 +24,6 @@ use Rattle.whitening.specs.Whitened.{Chosen, Rows, range_at, residual, raw_row, 
 use Rattle.whitening.specs.Normal.{evaluated}
 use Rattle.whitening.specs.Held.{cost_to}
 use Rattle.whitening.proofs.Costs.{cost-is, fill-at, fill-length}
-use Rattle.damped.specs.declared.Fit.{Fit}
 use Rattle.damped.specs.Damped.{candidate, levenberg_marquardt}
 use Rattle.damped.proofs.Squares.{more-none}
 use Rattle.damped.proofs.Kept.{fit-keeps}

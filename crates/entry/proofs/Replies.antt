@@ -5,7 +5,6 @@ use mathlib.Core.Bool.{Bool, true, false}
 use mathlib.Core.List.{List}
 use native.Mathlib.Omega.{arith}
 use borrow.Author.Tests.{lt-leb}
-use denote.Enum.Declared.{tag_of}
 use Rattle.problem.specs.declared.Altitude.{Altitude}
 use Rattle.problem.specs.declared.Problem.{Problem}
 use Rattle.inputs.specs.declared.Fault.{Fault}
@@ -14,7 +13,6 @@ use Rattle.inputs.specs.declared.Check.{Check}
 use Rattle.inputs.specs.declared.Check.TheVariants.{Passed, Refused}
 use Rattle.inputs.specs.Faults.{number_of, detail_of, or_else, unless}
 use Rattle.inputs.specs.Inputs.{Inputs, untorn, check_inputs, problem_of}
-use Rattle.inputs.specs.contracts.Check as check
 use Rattle.inputs.proofs.Order.{is_whole}
 use Rattle.rounds.specs.declared.answer.Answer as code
 use Rattle.rounds.specs.declared.answer.Case.{Case}
@@ -23,27 +21,11 @@ use Rattle.rounds.specs.declared.answer.Refusal.{Refusal}
 use Rattle.rounds.specs.Setting.{Answer, fix, refused, no_fixed_point}
 use Rattle.rounds.specs.Solve.{refusal_number, refusal_detail, solve_problem}
 use Rattle.rounds.specs.Held.{as_answer}
-use Rattle.rounds.specs.contracts.answer.Case as cases
 use Rattle.record.specs.declared.content.Fix.{Fix}
 use Rattle.record.specs.Record.{refusal}
 use Rattle.record.specs.Record as shown
 use Rattle.entry.specs.declared.Reply.{Reply}
 use Rattle.entry.specs.Reply.{answered, turned_away, replied, reply}
-
--- ---- a match that took an arm with nothing bound
-pub is-passed : (k : Check) → tag_of check.the_type k ≡ 0 → k ≡ Passed
-is-passed Passed e = refl
-is-passed (Refused fault) e = absurd (omega arith)
-
-pub is-fix : (k : Case) → tag_of cases.the_type k ≡ 0 → k ≡ case.Fix
-is-fix case.Fix e = refl
-is-fix (case.Refused why) e = absurd (omega arith)
-is-fix case.NoFixedPoint e = absurd (omega arith)
-
-pub is-unfixed : (k : Case) → tag_of cases.the_type k ≡ 2 → k ≡ case.NoFixedPoint
-is-unfixed case.Fix e = absurd (omega arith)
-is-unfixed (case.Refused why) e = absurd (omega arith)
-is-unfixed case.NoFixedPoint e = refl
 
 -- ---- the reply of an answer
 abbrev pub made : ℕ → List ℕ → Reply

@@ -3,7 +3,7 @@ ghost use Rattle.std.specs.Prelude.{◌≡◌, ◌≤◌, length, drop, if◌the
 ghost use Rattle.std.specs.Float.Ieee.{neg};
 ghost use Rattle.find_fixes.specs.Decimals as decimals;
 
-use std::env::Env;
+use std::rt::Env;
 
 // With fewer than this there is room for a digit more. A whole number of 15 digits is one that an f64 holds, and so is
 // a power of ten below that, so that their quotient is the f64 nearest to the decimal.

@@ -7,8 +7,8 @@
 // and its distance. A file or a query that is turned away is said on standard error, and then nothing is written; so
 // are other arguments, and an output that fails.
 //
-// The file is read block by block: each block is whole records, but for the last of a torn file, and what is found in a
-// block is found by `near`.
+// The file is read block by block, for the language has no heap: each block is whole records, but for the last of a
+// torn file, and what is found in a block is found by `near`.
 #![tactic(auto)]
 
 mod decimals;
@@ -62,6 +62,10 @@ struct Query {
     name: bool,
 }
 
+fn say(rt: &impl Eprint, text: &str) {
+    host::say(rt, text);
+}
+
 // Prints a line.
 fn print(rt: &impl Print, line: Text) -> io::Result<()>
     requires { (length line.bytes ≡ 512) × (line.n ≤ 512) }
@@ -73,13 +77,7 @@ fn print(rt: &impl Print, line: Text) -> io::Result<()>
 
 // Whether what was printed was written; where it was not, that is said.
 fn told<R: Eprint + Alloc>(rt: &R, written: io::Result<()>) -> bool {
-    match written {
-        Ok(()) => true,
-        Err(error) => {
-            host::fail(rt, b"find_fixes: standard output", error);
-            false
-        }
-    }
+    host::written(rt, written, b"find_fixes: standard output")
 }
 
 // ---- what is turned away
@@ -230,9 +228,8 @@ fn search<R: Print + Eprint + Alloc>(rt: &R, file: &mut impl Read, query: Query)
 
 // ---- the whole
 
-// A file that cannot be read: that is said.
-fn unread<R: Eprint + Alloc>(rt: &R, path: &[u8], error: io::Error) -> Best {
-    host::fail(rt, path, error);
+// In place of the nearest fix of a file that cannot be read.
+fn unread() -> Best {
     Best {
         found: false,
         place: 0,
@@ -241,34 +238,36 @@ fn unread<R: Eprint + Alloc>(rt: &R, path: &[u8], error: io::Error) -> Best {
     }
 }
 
-// The nearest fix of the file, and those within the radius named, if that is asked.
+// The nearest fix of the file, and those within the radius named, if that is asked. A file that cannot be read is said.
 fn searched<R: Files + Print + Eprint + Alloc>(rt: &R, path: &[u8], query: Query) -> Best {
-    match host::open_read(rt, path) {
-        Ok(mut file) => {
-            let best = search(rt, &mut file, query);
-            match host::read_error(&mut file) {
-                None => best,
-                Some(error) => unread(rt, path, error),
-            }
+    let mut file = match host::open_read(rt, path) {
+        Ok(file) => file,
+        Err(error) => {
+            host::fail(rt, path, error);
+            return unread();
         }
-        Err(error) => unread(rt, path, error),
+    };
+    let best = search(rt, &mut file, query);
+    if !host::sound(rt, &mut file, path) {
+        return unread();
     }
+    best
 }
 
 // Says why a file is turned away, or else why the query is. Whether neither is.
 fn passed(rt: &impl Eprint, file: u32, query: u32) -> bool {
     if file == refusals::TORN_FILE {
-        host::say(
+        say(
             rt,
             "find_fixes: the file is not whole records of 176 bytes (16, torn file)\n",
         );
     } else if file == refusals::MALFORMED_RECORD {
-        host::say(
+        say(
             rt,
             "find_fixes: the file has a record that breaks a rule (18, malformed record)\n",
         );
     } else if file == 0 && query != 0 {
-        host::say(
+        say(
             rt,
             "find_fixes: the place or the radius is beyond 10^8 m, or the radius is negative (22, bad query)\n",
         );
@@ -339,7 +338,7 @@ fn asked<R: Files + Print + Eprint + Alloc>(
             radius.value,
         );
     } else {
-        host::say(
+        say(
             rt,
             "find_fixes: a number is at most 15 digits, with one point among them or none, and a minus or none\n",
         );
@@ -374,7 +373,7 @@ fn main(rt: HostRuntime) {
             false,
         );
     } else {
-        host::say(
+        say(
             &rt,
             "usage: find_fixes FILE LATITUDE LONGITUDE HEIGHT RADIUS, or find_fixes FILE --ecef X Y Z RADIUS\n",
         );

@@ -11,22 +11,23 @@ ghost use Rattle.std.specs.Prelude.{◌≤◌, cond, ◌≡◌, length};
 ghost use Rattle.io.specs.Counts.{IsPrefixLen};
 ghost use Rattle.entry.specs.Cut.{taken, present_bits};
 
-use libc::ENOENT;
+use std::io::{ErrorKind, Read};
+use std::rt::Files;
 
 // The bytes of 33 receptions.
 pub const ONE_TOO_MANY: usize = 33 * receptions::RECEPTION_BYTES;
 
 // Room for the path of a file: a folder of 4,096 bytes, a slash and a name of 15. What is cut there has over 4,095
-// bytes, and is no path (`os`).
+// bytes, and is no path.
 const ROOM: usize = 4112;
 
 // How many bytes are read on at a time.
 const BLOCK: usize = 4096;
 
-// In the place of a descriptor, where a file is absent.
+// In the place of a file that is absent.
 const ABSENT: i32 = -1;
 
-// In the place of a descriptor, where a file is there and cannot be opened.
+// In the place of a file that is there and cannot be opened.
 const CLOSED: i32 = -2;
 
 // The first n bytes of a file that is there. It is not `read` where it is there and cannot be.
@@ -87,64 +88,59 @@ fn size(folder: &[u8], name: &[u8]) -> usize {
     n + 1 + k
 }
 
-// A descriptor of the file, ABSENT, or, said on standard error, CLOSED.
-fn opened(path: &[u8]) -> i32 {
-    let fd = os::open_read(path);
-    if fd >= 0 {
-        return fd;
+// The file, or ABSENT, or, said on standard error, CLOSED.
+fn opened<R: Files + Eprint + Alloc>(rt: &R, path: &[u8]) -> Result<R::File, i32> {
+    match host::open_read(rt, path) {
+        Ok(file) => Ok(file),
+        Err(error) => {
+            if error.kind() == ErrorKind::NotFound {
+                return Err(ABSENT);
+            }
+            host::fail(rt, path, error);
+            Err(CLOSED)
+        }
     }
-    if os::errno() == ENOENT {
-        return ABSENT;
-    }
-    os::fail(path);
-    CLOSED
 }
 
 // Closes the file. Whether reading on in it does not fail; where it does, that is said.
-fn closed(fd: i32, path: &[u8]) -> bool {
-    let mut byte = [0u8; 1];
-    let read = libc::read(fd, &mut byte) >= 0;
-    if !read {
-        os::fail(path);
-    }
-    libc::close(fd);
-    read
+fn closed<R: Eprint + Alloc>(rt: &R, mut file: impl Read + Drop, path: &[u8]) -> bool {
+    host::sound(rt, &mut file, path)
 }
 
 // The part that is read of a file which is ABSENT or CLOSED: none.
-fn missing(fd: i32) -> Part
+fn missing(why: i32) -> Part
     ensures { result.n ≡ 0 }
 {
     Part {
-        read: fd == ABSENT,
+        read: why == ABSENT,
         there: false,
         n: 0,
     }
 }
 
 // Whether the folder can be opened. Where it cannot, that is said.
-fn there(folder: &[u8]) -> bool {
+fn there<R: Files + Eprint + Alloc>(rt: &R, folder: &[u8]) -> bool {
     let path = joined(folder, b".");
     let n = within(size(folder, b"."), &path);
-    let fd = os::open_read(&path[..n]);
-    if fd < 0 {
-        os::fail(folder);
-        return false;
+    match host::open_read(rt, &path[..n]) {
+        Ok(_) => true,
+        Err(error) => {
+            host::fail(rt, folder, error);
+            false
+        }
     }
-    libc::close(fd);
-    true
 }
 
 // Reads the file at this path to the start of `buf`, as much of it as there is room for.
-fn read_at(path: &[u8], buf: &mut [u8]) -> Part
+fn read_at<R: Files + Eprint + Alloc>(rt: &R, path: &[u8], buf: &mut [u8]) -> Part
     ensures { IsPrefixLen result.n buf.new }
 {
-    let fd = opened(path);
-    if fd < 0 {
-        return missing(fd);
-    }
-    let n = io::read_full(fd, buf);
-    let read = closed(fd, path);
+    let mut file = match opened(rt, path) {
+        Ok(file) => file,
+        Err(why) => return missing(why),
+    };
+    let n = host::read_full(&mut file, buf);
+    let read = closed(rt, file, path);
     Part {
         read,
         there: true,
@@ -153,29 +149,34 @@ fn read_at(path: &[u8], buf: &mut [u8]) -> Part
 }
 
 // Reads the folder's file of this name likewise.
-pub fn read_file(folder: &[u8], name: &[u8], buf: &mut [u8]) -> Part
+pub fn read_file<R: Files + Eprint + Alloc>(
+    rt: &R,
+    folder: &[u8],
+    name: &[u8],
+    buf: &mut [u8],
+) -> Part
     ensures { IsPrefixLen result.n buf.new }
 {
     let path = joined(folder, name);
     let n = within(size(folder, name), &path);
-    read_at(&path[..n], buf)
+    read_at(rt, &path[..n], buf)
 }
 
 // Reads on, by a block or up to the end.
-fn some_more(fd: i32) -> usize
+fn some_more(file: &mut impl Read) -> usize
     ensures { result ≤ 4096 }
 {
     let mut buf = [0u8; BLOCK];
-    io::read_full(fd, &mut buf)
+    host::read_full(file, &mut buf)
 }
 
 // Whether what is left of the file is a whole number of receptions. A block is none, so the bytes that are
 // over are carried to the next. Nothing says that a file ends, so the turns are counted down.
-fn rest_is_whole(fd: i32) -> bool {
+fn rest_is_whole(file: &mut impl Read) -> bool {
     let mut turns = u64::MAX;
     let mut over = 0usize;
     while turns > 0 {
-        let n = some_more(fd);
+        let n = some_more(file);
         over = (over + n) % receptions::RECEPTION_BYTES;
         if n < BLOCK {
             return over == 0;
@@ -200,16 +201,16 @@ fn taken(n: usize, whole: bool) -> usize
 }
 
 // Reads the receptions at this path, of which `buf` has room for ONE_TOO_MANY bytes.
-fn receptions_at(path: &[u8], buf: &mut [u8]) -> Part
+fn receptions_at<R: Files + Eprint + Alloc>(rt: &R, path: &[u8], buf: &mut [u8]) -> Part
     ensures { IsPrefixLen result.n buf.new }
 {
-    let fd = opened(path);
-    if fd < 0 {
-        return missing(fd);
-    }
-    let n = io::read_full(fd, buf);
-    let whole = rest_is_whole(fd);
-    let read = closed(fd, path);
+    let mut file = match opened(rt, path) {
+        Ok(file) => file,
+        Err(why) => return missing(why),
+    };
+    let n = host::read_full(&mut file, buf);
+    let whole = rest_is_whole(&mut file);
+    let read = closed(rt, file, path);
     Part {
         read,
         there: true,
@@ -218,15 +219,15 @@ fn receptions_at(path: &[u8], buf: &mut [u8]) -> Part
 }
 
 // Reads the folder's receptions.bin likewise. They are not `read` either where the folder cannot be opened.
-pub fn read_receptions(folder: &[u8], buf: &mut [u8]) -> Part
+pub fn read_receptions<R: Files + Eprint + Alloc>(rt: &R, folder: &[u8], buf: &mut [u8]) -> Part
     ensures { IsPrefixLen result.n buf.new }
 {
-    if !there(folder) {
+    if !there(rt, folder) {
         return missing(CLOSED);
     }
     let path = joined(folder, b"receptions.bin");
     let n = within(size(folder, b"receptions.bin"), &path);
-    receptions_at(&path[..n], buf)
+    receptions_at(rt, &path[..n], buf)
 }
 
 // The bit of an input that is there.

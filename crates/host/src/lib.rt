@@ -5,6 +5,7 @@ ghost use Rattle.std.specs.Prelude.{◌≡◌, length};
 ghost use Rattle.io.specs.Counts.{IsPrefixLen};
 
 use std::env::{Env, FillError};
+use std::fmt::Display;
 use std::io::Read;
 use std::rt::Files;
 use std::{fs, io};
@@ -31,10 +32,28 @@ pub fn read_full(from: &mut impl Read, buf: &mut [u8]) -> usize
     done
 }
 
-// Why reading on fails, if it does.
-pub fn read_error(from: &mut impl Read) -> Option<io::Error> {
+// Whether reading on does not fail; where it does, that is said of `what`.
+pub fn sound<R: Eprint + Alloc>(rt: &R, from: &mut impl Read, what: &[u8]) -> bool {
     let mut byte = [0u8; 1];
-    from.read(&mut byte).err()
+    let read = from.read(&mut byte);
+    match read {
+        Ok(_) => true,
+        Err(error) => {
+            fail(rt, what, error);
+            false
+        }
+    }
+}
+
+// Whether a write did not fail; where it did, that is said of `what`.
+pub fn written<R: Eprint + Alloc>(rt: &R, write: io::Result<()>, what: &[u8]) -> bool {
+    match write {
+        Ok(()) => true,
+        Err(error) => {
+            fail(rt, what, error);
+            false
+        }
+    }
 }
 
 // Opens the file at this path for reading. A path is UTF-8.
@@ -63,8 +82,8 @@ pub fn arg_count(rt: &impl Env) -> usize {
 }
 
 // Writes to standard error. Where that fails, nobody can be told.
-pub fn say(rt: &impl Eprint, text: &str) {
-    let _ = rt.eprint(text);
+pub fn say(rt: &impl Eprint, words: impl Display + Drop) {
+    let _ = rt.eprint(words);
 }
 
 // Writes a line to standard error: what failed, as the caller names it, a colon and why.

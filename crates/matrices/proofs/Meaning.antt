@@ -17,7 +17,7 @@ use Rattle.dense.specs.Triangular.{blank}
 use Rattle.dense.specs.Lower.{array_of}
 use Rattle.dense.proofs.Places.{place}
 use Rattle.dense.proofs.Lower.{right_kept}
-use Rattle.matrices.specs.Matching.{holds, squares, square_and_column, three_squares, square_and_rows, answer, output}
+use Rattle.matrices.specs.Matching.{squares, square_and_column, three_squares, square_and_rows, answer, output}
 use Rattle.matrices.specs.Calls as calls
 use Rattle.matrices.specs.Meaning.{Answered, SandwichAnswered, ForwardRowsAnswered, InverseTriangularAnswered}
 use Rattle.matrices.specs.Meaning.{InverseDiagonalAnswered, CholeskyAnswered}

@@ -26,7 +26,7 @@ use Rattle.why.specs.Why.{verdict}
 use Rattle.why.specs.Meaning.{Agrees, with_fix, with_refusal}
 use Rattle.why.proofs.Agreement.{agrees-with-solve}
 use Rattle.stream.specs.declared.Solved.{Solved}
-use Rattle.stream.specs.Frames.{asked, solved_first}
+use Rattle.stream.specs.Frames.{asked, solved_next}
 use Rattle.stream.specs.Meaning.{first_of}
 use Rattle.stream.proofs.Next.{Came, all, less, came}
 use Rattle.mlat_solver.specs.Records.{content_of, whole, record_answer, record_output}
@@ -82,7 +82,7 @@ why-needs-room I states detail =
 abbrev number_by : Solved → ℕ
 number_by r = cond r.whole r.number 16
 
-first-other : (s out : List ℕ) → Came s out → ltb (length out) 176 ≡ false → number_by (solved_first s out) ≡ 14 → ⊥
+first-other : (s out : List ℕ) → Came s out → ltb (length out) 176 ≡ false → number_by (solved_next s out) ≡ 14 → ⊥
 first-other s out (all g e) l q =
     let number : ℕ = (reply (asked (first_of s))).number in
     reply-other (asked (first_of s)) (sym (ap (λ (b : Bool). cond b 14 number) l) ∙ sym (ap number_by e) ∙ q)
@@ -90,7 +90,7 @@ first-other s out (less g e o) l q = let z : ◌≡◌ {A = ℕ} 16 14 = sym (ap
 
 pub solve-next-needs-room : SolveNextNeedsRoom
 solve-next-needs-room s out used =
-    fourteen 176 (length out) _ (number_by (solved_first s out)) _ refl (first-other s out (came s out)) (λ l. (rw l, rw l))
+    fourteen 176 (length out) _ (number_by (solved_next s out)) _ refl (first-other s out (came s out)) (λ l. (rw l, rw l))
 
 -- ---- records
 cond-other : (b : Bool) (k m : ℕ) → (k ≡ 14 → ⊥) → (m ≡ 14 → ⊥) → cond b k m ≡ 14 → ⊥

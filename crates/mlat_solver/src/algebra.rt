@@ -5,8 +5,7 @@ ghost use Rattle.std.specs.Prelude.{◌≡◌};
 ghost use Rattle.matrices.specs.Calls as calls;
 
 // a inner a for a symmetric a, in the source's order of sums; symmetric to the bit whatever a and inner hold.
-#[unsafe(no_mangle)]
-pub extern "C" fn mlat_sandwich(n: usize, a: &[f64], inner: &[f64], out: &mut [f64]) -> u32
+pub fn mlat_sandwich(n: usize, a: &[f64], inner: &[f64], out: &mut [f64]) -> u32
     ensures answer { result ≡ calls.sandwich_answer n a.now inner.now out.old }
     ensures output { out.new
         ≡ calls.sandwich_output n a.now inner.now out.old }
@@ -15,8 +14,7 @@ pub extern "C" fn mlat_sandwich(n: usize, a: &[f64], inner: &[f64], out: &mut [f
 }
 
 // R with L R = Q, for the factor l and the n rows q of `width` numbers. A factor's entry that equals 0 is passed over.
-#[unsafe(no_mangle)]
-pub extern "C" fn mlat_forward_rows(
+pub fn mlat_forward_rows(
     n: usize,
     width: usize,
     l: &[f64],
@@ -32,8 +30,7 @@ pub extern "C" fn mlat_forward_rows(
 }
 
 // The inverse of the matrix with the factor l, as L⁻ᵀ L⁻¹: symmetric to the bit.
-#[unsafe(no_mangle)]
-pub extern "C" fn mlat_inverse_triangular(n: usize, l: &[f64], out: &mut [f64]) -> u32
+pub fn mlat_inverse_triangular(n: usize, l: &[f64], out: &mut [f64]) -> u32
     ensures answer { result ≡ calls.inverse_triangular_answer n l.now out.old }
     ensures output { out.new ≡ calls.inverse_triangular_output n l.now out.old }
 {
@@ -41,8 +38,7 @@ pub extern "C" fn mlat_inverse_triangular(n: usize, l: &[f64], out: &mut [f64]) 
 }
 
 // The diagonal of that inverse, n numbers with the bits that `mlat_inverse_triangular` gives there.
-#[unsafe(no_mangle)]
-pub extern "C" fn mlat_inverse_diagonal(n: usize, l: &[f64], out: &mut [f64]) -> u32
+pub fn mlat_inverse_diagonal(n: usize, l: &[f64], out: &mut [f64]) -> u32
     ensures answer { result ≡ calls.inverse_diagonal_answer n l.now out.old }
     ensures output { out.new ≡ calls.inverse_diagonal_output n l.now out.old }
 {
@@ -51,8 +47,7 @@ pub extern "C" fn mlat_inverse_diagonal(n: usize, l: &[f64], out: &mut [f64]) ->
 
 // The Cholesky factor of a, of which the lower triangle is read alone; right of its diagonal are zeros. 6 where a pivot
 // is not above 0 or is not a number, and then `out` stays.
-#[unsafe(no_mangle)]
-pub extern "C" fn mlat_cholesky(n: usize, a: &[f64], out: &mut [f64]) -> u32
+pub fn mlat_cholesky(n: usize, a: &[f64], out: &mut [f64]) -> u32
     ensures answer { result ≡ calls.cholesky_answer n a.now out.old }
     ensures output { out.new ≡ calls.cholesky_output n a.now out.old }
 {

@@ -8,8 +8,7 @@ use crate::geodesy::{geodetic, nine};
 
 // The chi-square value that the residuals of an exact optimum with so many degrees of freedom may
 // reach; 0 for none.
-#[unsafe(no_mangle)]
-pub extern "C" fn mlat_chi2_limit(dof: u32) -> f64
+pub fn mlat_chi2_limit(dof: u32) -> f64
     ensures { result ≡ chi2_limit dof }
 {
     limits::chi2_limit(dof)
@@ -27,8 +26,7 @@ fn rows(nine: &[f64; 9]) -> [[f64; 3]; 3]
 }
 
 // An ECEF covariance in the local east, north, up frame at the position, row by row.
-#[unsafe(no_mangle)]
-pub extern "C" fn mlat_enu_covariance(
+pub fn mlat_enu_covariance(
     position: &[f64; 3],
     covariance: &[f64; 9],
     enu: &mut [f64; 9],
@@ -40,8 +38,7 @@ pub extern "C" fn mlat_enu_covariance(
 }
 
 // One standard deviation of the horizontal position, metres.
-#[unsafe(no_mangle)]
-pub extern "C" fn mlat_horizontal_sigma_m(position: &[f64; 3], covariance: &[f64; 9]) -> f64
+pub fn mlat_horizontal_sigma_m(position: &[f64; 3], covariance: &[f64; 9]) -> f64
     ensures { result ≡ horizontal_sigma_m (geodetic_of position.now) (rows_of covariance.now) }
 {
     limits::horizontal_sigma_m(geodetic(position), rows(covariance))

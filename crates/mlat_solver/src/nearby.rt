@@ -6,8 +6,7 @@ ghost use Rattle.near.specs.Near as near;
 // entries of `places`, and how many they are into `count`. 14 where fewer entries are lent than the file's length
 // divided by 176, rounded down; then 16 where the file is not whole records, 18 where `mlat_read_record` would turn one
 // of them away, and 22 for a bad query. A refusal changes nothing lent.
-#[unsafe(no_mangle)]
-pub extern "C" fn mlat_within(
+pub fn mlat_within(
     file: &[u8],
     point: &[f64; 3],
     radius: f64,
@@ -26,8 +25,7 @@ pub extern "C" fn mlat_within(
 
 // The place, from 0, of the fix of a file that is nearest to an ECEF point, the earliest of those at one distance, into
 // `place`; the greatest u64 where the file has no fix. 16, 18 and 22 as above. A refusal changes nothing lent.
-#[unsafe(no_mangle)]
-pub extern "C" fn mlat_nearest(file: &[u8], point: &[f64; 3], place: &mut u64) -> u32
+pub fn mlat_nearest(file: &[u8], point: &[f64; 3], place: &mut u64) -> u32
     ensures answer { result ≡ near.nearest_answer file.now point.now }
     ensures place { place.new
         ≡ near.place_after file.now point.now place.old }

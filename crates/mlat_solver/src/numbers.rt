@@ -10,8 +10,7 @@ ghost use Rattle.mlat_solver.specs.Meaning.{IsRoot, IsRounded};
 
 // The binary64 nearest the exact square root, ties to even. -0 gives -0, any other negative number
 // a not-a-number.
-#[unsafe(no_mangle)]
-pub extern "C" fn mlat_sqrt(x: f64) -> f64
+pub fn mlat_sqrt(x: f64) -> f64
     ensures value { result ≡ root x }
     ensures meaning { IsRoot x result }
 {
@@ -20,8 +19,7 @@ pub extern "C" fn mlat_sqrt(x: f64) -> f64
 
 // The nearest whole number, a half away from zero, with the sign of x. Infinities and not-a-numbers
 // pass.
-#[unsafe(no_mangle)]
-pub extern "C" fn mlat_round(x: f64) -> f64
+pub fn mlat_round(x: f64) -> f64
     ensures value { result ≡ half_away x }
     ensures meaning { IsRounded x result }
 {
@@ -30,8 +28,7 @@ pub extern "C" fn mlat_round(x: f64) -> f64
 
 // The sine of an angle within ±7 by the steps of fdlibm 5.3: from -1 to 1, ends included. A not-a-number
 // for any other.
-#[unsafe(no_mangle)]
-pub extern "C" fn mlat_sin(x: f64) -> f64
+pub fn mlat_sin(x: f64) -> f64
     ensures value { result ≡ sin x }
     ensures meaning { IsBounded x result }
 {
@@ -40,8 +37,7 @@ pub extern "C" fn mlat_sin(x: f64) -> f64
 
 // The cosine of an angle within ±7 by the steps of fdlibm 5.3: from -1 to 1, ends included. A not-a-number
 // for any other.
-#[unsafe(no_mangle)]
-pub extern "C" fn mlat_cos(x: f64) -> f64
+pub fn mlat_cos(x: f64) -> f64
     ensures value { result ≡ cos x }
     ensures meaning { IsBounded x result }
 {
@@ -49,8 +45,7 @@ pub extern "C" fn mlat_cos(x: f64) -> f64
 }
 
 // Both together: the sine, then the cosine.
-#[unsafe(no_mangle)]
-pub extern "C" fn mlat_sincos(x: f64, pair: &mut [f64; 2])
+pub fn mlat_sincos(x: f64, pair: &mut [f64; 2])
     ensures value { pair.new ≡ sin x ∷ cos x ∷ [] }
     ensures meaning { AreBounded x pair.new }
 {
@@ -58,16 +53,14 @@ pub extern "C" fn mlat_sincos(x: f64, pair: &mut [f64; 2])
 }
 
 // The angle of (x, y) from the x axis, by the steps of fdlibm 5.3.
-#[unsafe(no_mangle)]
-pub extern "C" fn mlat_atan2(y: f64, x: f64) -> f64
+pub fn mlat_atan2(y: f64, x: f64) -> f64
     ensures { result ≡ atan2 y x }
 {
     libm::atan2(y, x)
 }
 
 // The length of (x, y), by the steps of fdlibm 5.3.
-#[unsafe(no_mangle)]
-pub extern "C" fn mlat_hypot(x: f64, y: f64) -> f64
+pub fn mlat_hypot(x: f64, y: f64) -> f64
     ensures { result ≡ hypot x y }
 {
     libm::hypot(x, y)

@@ -4,8 +4,7 @@ ghost use Rattle.patterns.specs.Patterns as patterns;
 
 // How many patterns of failing pairs of that many receptions leave 0, 1, .. 6 survivors: 24 over six; then `counts`
 // stays.
-#[unsafe(no_mangle)]
-pub extern "C" fn mlat_clash_patterns(receptions: u32, counts: &mut [u64; 7]) -> u32
+pub fn mlat_clash_patterns(receptions: u32, counts: &mut [u64; 7]) -> u32
     ensures answer { result ≡ patterns.answer receptions }
     ensures counts { counts.new ≡ patterns.counts_after receptions counts.old }
 {

@@ -9,8 +9,7 @@ use record::Fix;
 
 // Where the record at a place, from 0, begins in the caller's own file. 16 where the file is not whole
 // records, then 17 where it ends before the place; then `at` stays.
-#[unsafe(no_mangle)]
-pub extern "C" fn mlat_record_at(file: &[u8], place: u64, at: &mut u64) -> u32
+pub fn mlat_record_at(file: &[u8], place: u64, at: &mut u64) -> u32
     ensures answer { result ≡ place_refusal (length file.now) place }
     ensures offset { at.new ≡ held.placed_at (length file.now) place at.old }
 {
@@ -92,8 +91,7 @@ fn numbers_of(v: Content) -> [f64; 18]
 }
 
 // Takes a record of 176 bytes apart: 16 for another length, 18 where it breaks a rule.
-#[unsafe(no_mangle)]
-pub extern "C" fn mlat_read_record(
+pub fn mlat_read_record(
     bytes: &[u8],
     words: &mut [u32; 6],
     numbers: &mut [f64; 18],
@@ -180,8 +178,7 @@ fn whole(words: [u32; 6], numbers: [f64; 18]) -> bool
 
 // Puts a record together again in the first 176 bytes of `out`: 14 where it is shorter, then 18 for what
 // `mlat_read_record` could not have given.
-#[unsafe(no_mangle)]
-pub extern "C" fn mlat_write_record(
+pub fn mlat_write_record(
     words: &[u32; 6],
     numbers: &[f64; 18],
     time: i64,

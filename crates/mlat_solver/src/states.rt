@@ -6,8 +6,7 @@ ghost use Rattle.why.specs.Why as why;
 // Solves one transmission's problem from the bytes of document 01's four files, as `mlat_solve` does, and writes
 // the states of its receptions into `states`, 20 bytes each, in input order: 14 where it is shorter than 640
 // bytes, and then `detail` stays. A refused problem has no states, and `states` stays.
-#[unsafe(no_mangle)]
-pub extern "C" fn mlat_why(
+pub fn mlat_why(
     receptions: &[u8],
     clock: &[u8],
     altitude: &[u8],

@@ -8,14 +8,13 @@ use stream::Head;
 // Solves the first problem of a stream, and writes its record of 176 bytes at the start of `out` and the number of
 // bytes that the problem takes into `used`. Gives document 01's answer number: 14 where `out` is under 176 bytes,
 // tested first; then 16 where the stream ends within the problem. Then `out` and `used` stay.
-#[unsafe(no_mangle)]
-pub extern "C" fn mlat_solve_next(stream: &[u8], out: &mut [u8], used: &mut u64) -> u32
+pub fn mlat_solve_next(stream: &[u8], out: &mut [u8], used: &mut u64) -> u32
     ensures answer { result ≡ frames.next_answer stream.now out.old }
     ensures output { out.new ≡ frames.next_output stream.now out.old }
     ensures used { used.new
         ≡ frames.used_after stream.now out.old used.old }
 {
-    stream::solve_next(stream, out, used)
+    stream::answer_next(stream, out, used)
 }
 
 // Four lengths or marks as those of a problem.
@@ -32,11 +31,10 @@ fn head(lengths: &[u32; 4]) -> Head
 
 // Of the lengths of a problem's inputs, or 0xFFFFFFFF for an absent one, how much of the start of each is enough: a
 // problem of these starts gets the same reply.
-#[unsafe(no_mangle)]
-pub extern "C" fn mlat_cut_lengths(lengths: &[u32; 4], cut: &mut [u32; 4])
-    ensures { cut.new ≡ held.four_of (frames.cut_lengths (held.head_by lengths.now)) }
+pub fn mlat_cut_lengths(lengths: &[u32; 4], cut: &mut [u32; 4])
+    ensures { cut.new ≡ held.four_of (frames.kept (held.head_by lengths.now)) }
 {
-    let enough = stream::cut_lengths(head(lengths));
+    let enough = stream::kept(head(lengths));
     *cut = [
         enough.receptions,
         enough.clock,

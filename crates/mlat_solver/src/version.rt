@@ -10,8 +10,7 @@ const MINOR: u32 = 3;
 const PATCH: u32 = 0;
 
 // The version as one number, in the form of the header's MLAT_VERSION.
-#[unsafe(no_mangle)]
-pub extern "C" fn mlat_version() -> u32
+pub fn mlat_version() -> u32
     ensures { result ≡ version 0 3 0 }
 {
     MAJOR * 1_000_000 + MINOR * 1_000 + PATCH

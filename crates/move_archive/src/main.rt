@@ -55,18 +55,20 @@ struct Old {
     bytes: [u8; 176],
 }
 
+fn print(rt: &impl Eprint, text: &str) {
+    host::say(rt, text);
+}
+
+fn print_number(rt: &impl Eprint, number: u64) {
+    host::say(rt, number);
+}
+
 // Writes what a record is moved to, if that is asked. Whether nothing fails; where it does, that is said.
 fn shown<R: Print + Eprint + Alloc>(rt: &R, out: &[u8], asked: bool) -> bool {
     if !asked {
         return true;
     }
-    match rt.write_all(out) {
-        Ok(()) => true,
-        Err(error) => {
-            host::fail(rt, b"move_archive: standard output", error);
-            false
-        }
-    }
+    host::written(rt, rt.write_all(out), b"move_archive: standard output")
 }
 
 // A record, moved to the archive's form.
@@ -181,22 +183,19 @@ fn run<R: Print + Eprint + Alloc>(rt: &R, file: &mut impl Read, to: bool, write:
 
 // Closes the file. Whether reading on in it does not fail; where it does, that is said.
 fn closed<R: Eprint + Alloc>(rt: &R, mut file: impl Read + Drop, path: &[u8]) -> bool {
-    match host::read_error(&mut file) {
-        None => true,
-        Some(error) => {
-            host::fail(rt, path, error);
-            false
-        }
-    }
+    host::sound(rt, &mut file, path)
 }
 
-fn reason(refusal: u32) -> &'static str {
+fn print_reason(rt: &impl Eprint, refusal: u32) {
     if refusal == refusals::TORN_FILE {
-        "torn file: it is not whole"
+        print(rt, ", torn file: it is not whole\n");
     } else if refusal == refusals::UNEQUAL_MIRROR {
-        "unequal mirror: mirrored covariance entries differ"
+        print(rt, ", unequal mirror: mirrored covariance entries differ\n");
     } else {
-        "malformed record: it breaks a rule that every fix record meets"
+        print(
+            rt,
+            ", malformed record: it breaks a rule that every fix record meets\n",
+        );
     }
 }
 
@@ -205,12 +204,11 @@ fn passed(rt: &impl Eprint, stop: Stop) -> bool {
     if stop.refusal == 0 {
         return stop.written;
     }
-    let place = stop.records;
-    let refusal = stop.refusal;
-    let reason = reason(refusal);
-    let _ = eprintln!(rt;
-        "move_archive: the record at place {place} is turned away by {refusal}, {reason}"
-    );
+    print(rt, "move_archive: the record at place ");
+    print_number(rt, stop.records);
+    print(rt, " is turned away by ");
+    print_number(rt, stop.refusal as u64);
+    print_reason(rt, stop.refusal);
     false
 }
 
@@ -218,28 +216,33 @@ fn passed(rt: &impl Eprint, stop: Stop) -> bool {
 fn pass<R: Files + Print + Eprint + Alloc>(rt: &R, path: &[u8], to: bool, write: bool) -> Outcome
     ensures { result.records ≤ 72057594037927935 }
 {
-    match host::open_read(rt, path) {
-        Ok(mut file) => {
-            let stop = run(rt, &mut file, to, write);
-            let read = closed(rt, file, path);
-            let whole = read && passed(rt, stop);
-            Outcome {
-                records: stop.records,
-                whole,
-            }
-        }
+    let mut file = match host::open_read(rt, path) {
+        Ok(file) => file,
         Err(error) => {
             host::fail(rt, path, error);
-            Outcome {
+            return Outcome {
                 records: 0,
                 whole: false,
-            }
+            };
         }
+    };
+    let stop = run(rt, &mut file, to, write);
+    let read = closed(rt, file, path);
+    let whole = read && passed(rt, stop);
+    Outcome {
+        records: stop.records,
+        whole,
     }
 }
 
 fn print_sizes(rt: &impl Eprint, records: u64, before: u64, after: u64) {
-    let _ = eprintln!(rt; "move_archive: {records} records, {before} bytes before, {after} after");
+    print(rt, "move_archive: ");
+    print_number(rt, records);
+    print(rt, " records, ");
+    print_number(rt, before);
+    print(rt, " bytes before, ");
+    print_number(rt, after);
+    print(rt, " after\n");
 }
 
 fn print_moved(rt: &impl Eprint, records: u64, to: bool)
@@ -272,7 +275,7 @@ fn main(rt: HostRuntime) {
     if host::arg_count(&rt) == 3 && (to || from) {
         move_all(&rt, &path[..p], to);
     } else {
-        host::say(
+        print(
             &rt,
             "usage: move_archive to FILE, or move_archive from FILE\n",
         );

@@ -16,6 +16,7 @@ mod rows;
 
 use counts::{First, Minute, count, print_counts, print_minute, with_fix};
 use rows::{print_columns, print_row};
+use std::fmt::Display;
 use std::io;
 use std::io::Read;
 use std::rt::Files;
@@ -31,6 +32,14 @@ struct Step {
     torn: bool,
     answer: u32,
     time: u64,
+}
+
+pub(crate) fn print(rt: &impl Print, text: impl Display + Drop) {
+    let _ = rt.print(text);
+}
+
+pub(crate) fn print_number(rt: &impl Print, number: u64) {
+    print(rt, number);
 }
 
 // ---- the whole
@@ -54,22 +63,22 @@ fn answer_of(bytes: &[u8; 176]) -> u32 {
 }
 
 // The next record, printed if it is to be.
-fn next(rt: &impl Print, file: &mut impl Read, csv: bool, place: u64) -> io::Result<Step> {
+fn next(rt: &impl Print, file: &mut impl Read, csv: bool, place: u64) -> Step {
     let mut bytes = [0u8; 176];
     let n = host::read_full(file, &mut bytes);
     if n < 176 {
-        return Ok(ended(n > 0));
+        return ended(n > 0);
     }
     let answer = answer_of(&bytes);
     if csv {
-        print_row(rt, &bytes, place, answer)?;
+        print_row(rt, &bytes, place, answer);
     }
-    Ok(Step {
+    Step {
         ended: false,
         torn: false,
         answer,
         time: words::u64_at(&bytes, 72),
-    })
+    }
 }
 
 fn first_of(first: First, place: u64, answer: u32) -> First {
@@ -80,42 +89,43 @@ fn first_of(first: First, place: u64, answer: u32) -> First {
 }
 
 // The run of fixes of a minute with a record more, where minutes are counted.
-fn run_with(rt: &impl Print, run: Minute, step: Step, csv: bool) -> io::Result<Minute> {
+fn run_with(rt: &impl Print, run: Minute, step: Step, csv: bool) -> Minute {
     if csv || step.answer != 0 {
-        return Ok(run);
+        return run;
     }
     with_fix(rt, run, step.time)
 }
 
 fn print_torn(rt: &impl Eprint, place: u64) {
-    let _ = eprintln!(rt;
-        "records: the file ends within the record at place {place}: it is no whole number of records of 176 bytes \
-        (16, torn file)"
+    host::say(rt, "records: the file ends within the record at place ");
+    host::say(rt, place);
+    host::say(
+        rt,
+        ": it is no whole number of records of 176 bytes (16, torn file)\n",
     );
 }
 
 // The last words, where the file has so many whole records.
-fn last(
-    rt: &(impl Print + Eprint),
+fn last<R: Print + Eprint>(
+    rt: &R,
     counts: &[u64; 32],
     records: u64,
     first: First,
     run: Minute,
     csv: bool,
     torn: bool,
-) -> io::Result<()> {
+) {
     if !csv {
-        print_minute(rt, run)?;
-        print_counts(rt, counts, records, first)?;
+        print_minute(rt, run);
+        print_counts(rt, counts, records, first);
     }
     if torn {
         print_torn(rt, records);
     }
-    Ok(())
 }
 
 // Goes through the records.
-fn run(rt: &(impl Print + Eprint), file: &mut impl Read, csv: bool) -> io::Result<()> {
+fn run<R: Print + Eprint>(rt: &R, file: &mut impl Read, csv: bool) {
     let mut counts = [0u64; 32];
     let mut records = 0;
     let mut first = First {
@@ -128,63 +138,61 @@ fn run(rt: &(impl Print + Eprint), file: &mut impl Read, csv: bool) -> io::Resul
         fixes: 0,
     };
     while records < MOST {
-        let step = next(rt, file, csv, records)?;
+        let step = next(rt, file, csv, records);
         if step.ended {
-            return last(rt, &counts, records, first, minute, csv, step.torn);
+            last(rt, &counts, records, first, minute, csv, step.torn);
+            return;
         }
         count(&mut counts, step.answer);
         let f = first_of(first, records, step.answer);
         first = f;
-        let m = run_with(rt, minute, step, csv)?;
+        let m = run_with(rt, minute, step, csv);
         minute = m;
         records += 1;
     }
-    Ok(())
 }
 
-// Lists or counts what is read.
-fn of<R: Print + Eprint + Alloc>(rt: &R, file: &mut impl Read, csv: bool) -> io::Result<()> {
+// The file, or none, which stands for standard input.
+fn opened<R: Files>(rt: &R, path: &[u8]) -> io::Result<Option<R::File>> {
+    if path.len() == 0 {
+        return Ok(None);
+    }
+    match host::open_read(rt, path) {
+        Ok(file) => Ok(Some(file)),
+        Err(error) => Err(error),
+    }
+}
+
+// Lists or counts what is opened.
+fn read<R: Print + Eprint + Alloc>(rt: &R, file: &mut impl Read, csv: bool) {
     if csv {
-        print_columns(rt)?;
+        print_columns(rt);
     }
-    run(rt, file, csv)?;
-    if let Some(error) = host::read_error(file) {
-        host::fail(rt, b"records: reading", error);
-    }
-    Ok(())
+    run(rt, file, csv);
+    host::sound(rt, file, b"records: reading");
 }
 
 // Lists or counts the file, or standard input.
-fn all<R: Files + Input + Print + Eprint + Alloc>(
-    rt: &R,
-    path: &[u8],
-    csv: bool,
-) -> io::Result<()> {
-    if path.len() == 0 {
-        return of(rt, &mut rt.reader(), csv);
-    }
-    match host::open_read(rt, path) {
-        Ok(mut file) => of(rt, &mut file, csv),
-        Err(error) => {
-            host::fail(rt, path, error);
-            Ok(())
-        }
+fn all<R: Files + Print + Eprint + Alloc>(rt: &R, input: &mut impl Read, path: &[u8], csv: bool) {
+    match opened(rt, path) {
+        Ok(None) => read(rt, input, csv),
+        Ok(Some(mut file)) => read(rt, &mut file, csv),
+        Err(error) => host::fail(rt, path, error),
     }
 }
 
-fn main(rt: HostRuntime) -> io::Result<()> {
+fn main(rt: HostRuntime) {
+    let mut input = rt.stdin();
     let mut word = host::buffer();
     let mut path = host::buffer();
     let w = host::arg(&rt, 1, &mut word);
     let p = host::arg(&rt, 2, &mut path);
     let csv = check::same(&word[..w], b"--csv");
-    let count = host::arg_count(&rt);
-    if count > 3 || count == 3 && !csv {
+    if host::arg_count(&rt) > 3 || host::arg_count(&rt) == 3 && !csv {
         host::say(&rt, "usage: records [--csv] [FILE]\n");
-        return Ok(());
+    } else if csv {
+        all(&rt, &mut input, &path[..p], true);
+    } else {
+        all(&rt, &mut input, &word[..w], false);
     }
-    if csv {
-        return all(&rt, &path[..p], true);
-    }
-    all(&rt, &word[..w], false)
 }

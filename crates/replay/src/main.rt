@@ -13,7 +13,8 @@ ghost use Rattle.std.specs.Prelude.{◌+◌, ◌<◌, ◌≤◌};
 mod list;
 
 use cases::{Compared, Tally};
-use libc::STDOUT_FILENO;
+use std::io;
+use std::io::Read;
 
 // What the memory holds before a call.
 const FOUND: u8 = 0xa5;
@@ -211,17 +212,17 @@ fn call_both(
 
 // The next input, which is input k. Its first eight bytes are read already. A record that ends early is made one that
 // no call gives.
-fn tried(head: &[u8; 8], k: u64) -> Both {
+fn tried(input: &mut impl Read, head: &[u8; 8], k: u64) -> Both {
     let mut receptions = [0u8; 16384];
     let mut clock = [0u8; 16384];
     let mut altitude = [0u8; 256];
     let mut reference = [0u8; 256];
     let mut recorded = [0u8; 176];
-    let r = cases::read(&mut receptions, size(head[0], head[1]));
-    let c = cases::read(&mut clock, size(head[2], head[3]));
-    let a = cases::read(&mut altitude, size(head[4], 0));
-    let f = cases::read(&mut reference, size(head[5], 0));
-    let whole = cases::read(&mut recorded, 176) == 176;
+    let r = cases::read(input, &mut receptions, size(head[0], head[1]));
+    let c = cases::read(input, &mut clock, size(head[2], head[3]));
+    let a = cases::read(input, &mut altitude, size(head[4], 0));
+    let f = cases::read(input, &mut reference, size(head[5], 0));
+    let whole = cases::read(input, &mut recorded, 176) == 176;
     if !whole {
         recorded = [0xffu8; 176];
     }
@@ -238,8 +239,8 @@ fn tried(head: &[u8; 8], k: u64) -> Both {
 }
 
 // The next input's first eight bytes, and whether there are any.
-fn next(head: &mut [u8; 8]) -> bool {
-    cases::read(head, 8) == 8
+fn next(input: &mut impl Read, head: &mut [u8; 8]) -> bool {
+    cases::read(input, head, 8) == 8
 }
 
 // One list more, where the input has one.
@@ -256,37 +257,31 @@ fn with_list(lists: Tally, found: Both) -> Tally
     lists
 }
 
-fn print(tally: Tally) {
-    io::print_decimal(STDOUT_FILENO, tally.compared);
-    io::write_all(STDOUT_FILENO, b" compared, ");
-    io::print_decimal(STDOUT_FILENO, tally.differ);
-    io::write_all(STDOUT_FILENO, b" differ; ");
-    io::print_decimal(STDOUT_FILENO, tally.compared);
-    io::write_all(STDOUT_FILENO, b" falsified, ");
-    io::print_decimal(STDOUT_FILENO, tally.differ_falsified);
-    io::write_all(STDOUT_FILENO, b" differ\n");
+fn print(rt: &impl Print, tally: Tally) -> io::Result<()> {
+    cases::print(rt, tally)
 }
 
-fn print_bytes(tally: Tally) {
-    io::write_all(STDOUT_FILENO, b"mlat_solve: ");
-    print(tally);
+fn print_bytes(rt: &impl Print, tally: Tally) -> io::Result<()> {
+    rt.print("mlat_solve: ")?;
+    print(rt, tally)
 }
 
-fn print_lists(tally: Tally) {
-    io::write_all(STDOUT_FILENO, b"mlat_solve_receptions: ");
-    print(tally);
+fn print_lists(rt: &impl Print, tally: Tally) -> io::Result<()> {
+    rt.print("mlat_solve_receptions: ")?;
+    print(rt, tally)
 }
 
-fn main() {
+fn main(rt: HostRuntime) -> io::Result<()> {
+    let mut input = rt.stdin();
     let mut head = [0u8; 8];
     let mut tally = Tally::none();
     let mut lists = Tally::none();
-    while tally.compared < cases::MOST && next(&mut head) {
-        let found = tried(&head, tally.compared);
+    while tally.compared < cases::MOST && next(&mut input, &mut head) {
+        let found = tried(&mut input, &head, tally.compared);
         let bytes = found.bytes;
         tally = tally.with(bytes);
         lists = with_list(lists, found);
     }
-    print_bytes(tally);
-    print_lists(lists);
+    print_bytes(&rt, tally)?;
+    print_lists(&rt, lists)
 }

@@ -6,7 +6,8 @@
 #![tactic(auto)]
 
 use cases::{Compared, Tally};
-use libc::STDOUT_FILENO;
+use std::io;
+use std::io::Read;
 
 // A length of two bytes, the lower one first.
 fn size(low: u8, high: u8) -> usize {
@@ -53,12 +54,12 @@ fn found() -> [u8; 1024] {
 }
 
 // The next move, which is move k. Its first eight bytes are read already.
-fn tried(head: &[u8; 8], k: u64) -> Compared {
+fn tried(input: &mut impl Read, head: &[u8; 8], k: u64) -> Compared {
     let mut bytes = [0u8; 1024];
     let mut out = found();
     let mut after = [0u8; 1024];
-    let f = cases::read(&mut bytes, size(head[2], head[3]));
-    let n = cases::read(&mut after, size(head[4], head[5]));
+    let f = cases::read(input, &mut bytes, size(head[2], head[3]));
+    let n = cases::read(input, &mut after, size(head[4], head[5]));
     twice(
         head[0],
         &bytes[..f],
@@ -70,27 +71,21 @@ fn tried(head: &[u8; 8], k: u64) -> Compared {
 }
 
 // The next move's first eight bytes, and whether there are any.
-fn next(head: &mut [u8; 8]) -> bool {
-    cases::read(head, 8) == 8
+fn next(input: &mut impl Read, head: &mut [u8; 8]) -> bool {
+    cases::read(input, head, 8) == 8
 }
 
-fn print(tally: Tally) {
-    io::print_decimal(STDOUT_FILENO, tally.compared);
-    io::write_all(STDOUT_FILENO, b" compared, ");
-    io::print_decimal(STDOUT_FILENO, tally.differ);
-    io::write_all(STDOUT_FILENO, b" differ; ");
-    io::print_decimal(STDOUT_FILENO, tally.compared);
-    io::write_all(STDOUT_FILENO, b" falsified, ");
-    io::print_decimal(STDOUT_FILENO, tally.differ_falsified);
-    io::write_all(STDOUT_FILENO, b" differ\n");
+fn print(rt: &impl Print, tally: Tally) -> io::Result<()> {
+    cases::print(rt, tally)
 }
 
-fn main() {
+fn main(rt: HostRuntime) -> io::Result<()> {
+    let mut input = rt.stdin();
     let mut head = [0u8; 8];
     let mut tally = Tally::none();
-    while tally.compared < cases::MOST && next(&mut head) {
-        let found = tried(&head, tally.compared);
+    while tally.compared < cases::MOST && next(&mut input, &mut head) {
+        let found = tried(&mut input, &head, tally.compared);
         tally = tally.with(found);
     }
-    print(tally);
+    print(&rt, tally)
 }

@@ -6,7 +6,8 @@
 #![tactic(auto)]
 
 use cases::{Compared, Tally};
-use libc::STDOUT_FILENO;
+use std::io;
+use std::io::Read;
 
 // Lent memory is filled with bytes A5 before a call, so that what is not written shows.
 const FOUND: u8 = 0xa5;
@@ -74,12 +75,12 @@ fn found() -> [u8; 16] {
 }
 
 // The next call, which writes to so many lent bytes.
-fn written(export: bool, number: u8, length: usize, k: u64) -> Compared {
+fn written(input: &mut impl Read, export: bool, number: u8, length: usize, k: u64) -> Compared {
     let mut whole = [0u8; 12];
     let mut out = found();
     let mut after = [0u8; 16];
-    cases::read(&mut whole, 12);
-    let n = cases::read(&mut after, length);
+    cases::read(input, &mut whole, 12);
+    let n = cases::read(input, &mut after, length);
     written_twice(export, &whole, number, &mut out[..n], &mut after[..n], k)
 }
 
@@ -95,11 +96,11 @@ fn read_alike(bytes: &[u8], number: u8, after: &[u8; 12]) -> bool {
 }
 
 // The next call, which reads so many bytes.
-fn read(number: u8, length: usize, k: u64) -> Compared {
+fn read(input: &mut impl Read, number: u8, length: usize, k: u64) -> Compared {
     let mut bytes = [0u8; 16];
     let mut after = [0u8; 12];
-    let n = cases::read(&mut bytes, length);
-    cases::read(&mut after, 12);
+    let n = cases::read(input, &mut bytes, length);
+    cases::read(input, &mut after, 12);
     let same = read_alike(&bytes[..n], number, &after);
     let other = falsified(number, &mut after, k);
     let same_falsified = read_alike(&bytes[..n], other, &after);
@@ -114,36 +115,30 @@ fn size(length: u8) -> usize {
 }
 
 // The next call, which is call k. Its first eight bytes are read already.
-fn tried(head: &[u8; 8], k: u64) -> Compared {
+fn tried(input: &mut impl Read, head: &[u8; 8], k: u64) -> Compared {
     let length = size(head[2]);
     if head[0] == 2 {
-        return read(head[1], length, k);
+        return read(input, head[1], length, k);
     }
-    written(head[0] == 0, head[1], length, k)
+    written(input, head[0] == 0, head[1], length, k)
 }
 
 // The next call's first eight bytes, and whether there are any.
-fn next(head: &mut [u8; 8]) -> bool {
-    cases::read(head, 8) == 8
+fn next(input: &mut impl Read, head: &mut [u8; 8]) -> bool {
+    cases::read(input, head, 8) == 8
 }
 
-fn print(tally: Tally) {
-    io::print_decimal(STDOUT_FILENO, tally.compared);
-    io::write_all(STDOUT_FILENO, b" compared, ");
-    io::print_decimal(STDOUT_FILENO, tally.differ);
-    io::write_all(STDOUT_FILENO, b" differ; ");
-    io::print_decimal(STDOUT_FILENO, tally.compared);
-    io::write_all(STDOUT_FILENO, b" falsified, ");
-    io::print_decimal(STDOUT_FILENO, tally.differ_falsified);
-    io::write_all(STDOUT_FILENO, b" differ\n");
+fn print(rt: &impl Print, tally: Tally) -> io::Result<()> {
+    cases::print(rt, tally)
 }
 
-fn main() {
+fn main(rt: HostRuntime) -> io::Result<()> {
+    let mut input = rt.stdin();
     let mut head = [0u8; 8];
     let mut tally = Tally::none();
-    while tally.compared < cases::MOST && next(&mut head) {
-        let found = tried(&head, tally.compared);
+    while tally.compared < cases::MOST && next(&mut input, &mut head) {
+        let found = tried(&mut input, &head, tally.compared);
         tally = tally.with(found);
     }
-    print(tally);
+    print(&rt, tally)
 }

@@ -6,7 +6,8 @@
 #![tactic(auto)]
 
 use cases::{Compared, Tally};
-use libc::STDOUT_FILENO;
+use std::io;
+use std::io::Read;
 
 // What the function of a record gives.
 fn result(function: u64, a: f64, b: f64) -> f64 {
@@ -56,27 +57,21 @@ fn tried(record: &[u8; 32]) -> Compared {
 }
 
 // The next record, and whether there was one.
-fn next(record: &mut [u8; 32]) -> bool {
-    cases::read(record, 32) == 32
+fn next(input: &mut impl Read, record: &mut [u8; 32]) -> bool {
+    cases::read(input, record, 32) == 32
 }
 
-fn print(tally: Tally) {
-    io::print_decimal(STDOUT_FILENO, tally.compared);
-    io::write_all(STDOUT_FILENO, b" compared, ");
-    io::print_decimal(STDOUT_FILENO, tally.differ);
-    io::write_all(STDOUT_FILENO, b" differ; ");
-    io::print_decimal(STDOUT_FILENO, tally.compared);
-    io::write_all(STDOUT_FILENO, b" falsified, ");
-    io::print_decimal(STDOUT_FILENO, tally.differ_falsified);
-    io::write_all(STDOUT_FILENO, b" differ\n");
+fn print(rt: &impl Print, tally: Tally) -> io::Result<()> {
+    cases::print(rt, tally)
 }
 
-fn main() {
+fn main(rt: HostRuntime) -> io::Result<()> {
+    let mut input = rt.stdin();
     let mut record = [0u8; 32];
     let mut tally = Tally::none();
-    while tally.compared < cases::MOST && next(&mut record) {
+    while tally.compared < cases::MOST && next(&mut input, &mut record) {
         let found = tried(&record);
         tally = tally.with(found);
     }
-    print(tally);
+    print(&rt, tally)
 }

@@ -6,7 +6,8 @@
 #![tactic(auto)]
 
 use cases::{Compared, Tally};
-use libc::STDOUT_FILENO;
+use std::io;
+use std::io::Read;
 
 // The output holds bytes A5 before a call, so that what is not written shows.
 const FOUND: u64 = 0xa5a5_a5a5_a5a5_a5a5;
@@ -69,10 +70,10 @@ fn called(call: u8, n: usize, width: usize, first: &[f64], second: &[f64], out: 
 }
 
 // The next numbers, of which there are so many.
-fn taken(count: usize) -> [u8; 8192] {
+fn taken(input: &mut impl Read, count: usize) -> [u8; 8192] {
     let mut bytes = [0u8; 8192];
     if count <= 1024 {
-        cases::read(&mut bytes, 8 * count);
+        cases::read(input, &mut bytes, 8 * count);
     }
     bytes
 }
@@ -82,9 +83,15 @@ fn is_answer(answer: u32, recorded: u8) -> bool {
 }
 
 // The call on these parts of the recorded numbers, with an output of its own. No recorded call has more than 1024.
-fn on_parts(head: &[u8; 16], first: &[f64], second: &[f64], k: u64) -> Compared {
+fn on_parts(
+    input: &mut impl Read,
+    head: &[u8; 16],
+    first: &[f64],
+    second: &[f64],
+    k: u64,
+) -> Compared {
     let count = size(head[8], head[9]);
-    let mut after = taken(count);
+    let mut after = taken(input, count);
     let mut out = [binary64::from_bits(FOUND); 1024];
     if count > 1024 {
         return Compared {
@@ -104,53 +111,47 @@ fn on_parts(head: &[u8; 16], first: &[f64], second: &[f64], k: u64) -> Compared 
     }
 }
 
-fn with_second(head: &[u8; 16], first: &[f64], k: u64) -> Compared {
+fn with_second(input: &mut impl Read, head: &[u8; 16], first: &[f64], k: u64) -> Compared {
     let s = size(head[6], head[7]);
-    let second = numbers(&taken(s));
+    let second = numbers(&taken(input, s));
     if s > 1024 {
         return Compared {
             same: false,
             same_falsified: true,
         };
     }
-    on_parts(head, first, &second[..s], k)
+    on_parts(input, head, first, &second[..s], k)
 }
 
 // The next call, which is call k. Its first sixteen bytes are read already.
-fn tried(head: &[u8; 16], k: u64) -> Compared {
+fn tried(input: &mut impl Read, head: &[u8; 16], k: u64) -> Compared {
     let f = size(head[4], head[5]);
-    let first = numbers(&taken(f));
+    let first = numbers(&taken(input, f));
     if f > 1024 {
         return Compared {
             same: false,
             same_falsified: true,
         };
     }
-    with_second(head, &first[..f], k)
+    with_second(input, head, &first[..f], k)
 }
 
 // The next call's first sixteen bytes, and whether there are any.
-fn next(head: &mut [u8; 16]) -> bool {
-    cases::read(head, 16) == 16
+fn next(input: &mut impl Read, head: &mut [u8; 16]) -> bool {
+    cases::read(input, head, 16) == 16
 }
 
-fn print(tally: Tally) {
-    io::print_decimal(STDOUT_FILENO, tally.compared);
-    io::write_all(STDOUT_FILENO, b" compared, ");
-    io::print_decimal(STDOUT_FILENO, tally.differ);
-    io::write_all(STDOUT_FILENO, b" differ; ");
-    io::print_decimal(STDOUT_FILENO, tally.compared);
-    io::write_all(STDOUT_FILENO, b" falsified, ");
-    io::print_decimal(STDOUT_FILENO, tally.differ_falsified);
-    io::write_all(STDOUT_FILENO, b" differ\n");
+fn print(rt: &impl Print, tally: Tally) -> io::Result<()> {
+    cases::print(rt, tally)
 }
 
-fn main() {
+fn main(rt: HostRuntime) -> io::Result<()> {
+    let mut input = rt.stdin();
     let mut head = [0u8; 16];
     let mut tally = Tally::none();
-    while tally.compared < cases::MOST && next(&mut head) {
-        let found = tried(&head, tally.compared);
+    while tally.compared < cases::MOST && next(&mut input, &mut head) {
+        let found = tried(&mut input, &head, tally.compared);
         tally = tally.with(found);
     }
-    print(tally);
+    print(&rt, tally)
 }

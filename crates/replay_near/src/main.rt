@@ -9,7 +9,8 @@
 ghost use Rattle.std.specs.Prelude.{◌≤◌};
 
 use cases::{Compared, Tally};
-use libc::STDOUT_FILENO;
+use std::io;
+use std::io::Read;
 
 // The number of a search, and the count or place that it leaves.
 #[derive(Clone, Copy)]
@@ -108,15 +109,15 @@ fn lent(n: usize) -> usize
 }
 
 // The next search, which is search k. Its first eight bytes are read already.
-fn tried(head: &[u8; 8], k: u64) -> Compared {
+fn tried(input: &mut impl Read, head: &[u8; 8], k: u64) -> Compared {
     let mut file = [0u8; 16384];
     let mut query = [0u8; 32];
     let mut places = [FOUND; ENTRIES];
     let mut after = [0u8; 1032];
-    let f = cases::read(&mut file, size(head[2], head[3]));
+    let f = cases::read(input, &mut file, size(head[2], head[3]));
     let n = lent(size(head[4], head[5]));
-    let q = cases::read(&mut query, 32);
-    let a = cases::read(&mut after, 8 + 8 * n);
+    let q = cases::read(input, &mut query, 32);
+    let a = cases::read(input, &mut after, 8 + 8 * n);
     twice(
         head[0],
         &file[..f],
@@ -129,27 +130,21 @@ fn tried(head: &[u8; 8], k: u64) -> Compared {
 }
 
 // The next search's first eight bytes, and whether there are any.
-fn next(head: &mut [u8; 8]) -> bool {
-    cases::read(head, 8) == 8
+fn next(input: &mut impl Read, head: &mut [u8; 8]) -> bool {
+    cases::read(input, head, 8) == 8
 }
 
-fn print(tally: Tally) {
-    io::print_decimal(STDOUT_FILENO, tally.compared);
-    io::write_all(STDOUT_FILENO, b" compared, ");
-    io::print_decimal(STDOUT_FILENO, tally.differ);
-    io::write_all(STDOUT_FILENO, b" differ; ");
-    io::print_decimal(STDOUT_FILENO, tally.compared);
-    io::write_all(STDOUT_FILENO, b" falsified, ");
-    io::print_decimal(STDOUT_FILENO, tally.differ_falsified);
-    io::write_all(STDOUT_FILENO, b" differ\n");
+fn print(rt: &impl Print, tally: Tally) -> io::Result<()> {
+    cases::print(rt, tally)
 }
 
-fn main() {
+fn main(rt: HostRuntime) -> io::Result<()> {
+    let mut input = rt.stdin();
     let mut head = [0u8; 8];
     let mut tally = Tally::none();
-    while tally.compared < cases::MOST && next(&mut head) {
-        let found = tried(&head, tally.compared);
+    while tally.compared < cases::MOST && next(&mut input, &mut head) {
+        let found = tried(&mut input, &head, tally.compared);
         tally = tally.with(found);
     }
-    print(tally);
+    print(&rt, tally)
 }

@@ -7,7 +7,8 @@
 ghost use Rattle.std.specs.Prelude.{◌+◌, ◌*◌, ◌≤◌};
 
 use cases::{Compared, Tally};
-use libc::STDOUT_FILENO;
+use std::io;
+use std::io::Read;
 
 // What the memory of the results holds before a call.
 const FOUND: f64 = -8.125e77;
@@ -149,29 +150,27 @@ fn tried(call: &[u8; 176]) -> Compared {
 }
 
 // The next call, and whether there was one.
-fn next(call: &mut [u8; 176]) -> bool {
-    cases::read(call, 176) == 176
+fn next(input: &mut impl Read, call: &mut [u8; 176]) -> bool {
+    cases::read(input, call, 176) == 176
 }
 
-fn print(tally: Tally) {
-    io::print_decimal(STDOUT_FILENO, tally.compared);
-    io::write_all(STDOUT_FILENO, b" compared, ");
-    io::print_decimal(STDOUT_FILENO, tally.differ);
-    io::write_all(STDOUT_FILENO, b" differ; ");
-    io::print_decimal(STDOUT_FILENO, tally.compared);
-    io::write_all(STDOUT_FILENO, b" falsified, ");
-    io::print_decimal(STDOUT_FILENO, tally.differ_falsified);
-    io::write_all(STDOUT_FILENO, b" differ; version ");
-    io::print_decimal(STDOUT_FILENO, mlat_solver::mlat_version() as u64);
-    io::write_all(STDOUT_FILENO, b"\n");
+fn print(rt: &impl Print, tally: Tally) -> io::Result<()> {
+    let compared = tally.compared;
+    let differ = tally.differ;
+    let falsified = tally.differ_falsified;
+    let version = mlat_solver::mlat_version();
+    println!(rt;
+        "{compared} compared, {differ} differ; {compared} falsified, {falsified} differ; version {version}"
+    )
 }
 
-fn main() {
+fn main(rt: HostRuntime) -> io::Result<()> {
+    let mut input = rt.stdin();
     let mut call = [0u8; 176];
     let mut tally = Tally::none();
-    while tally.compared < cases::MOST && next(&mut call) {
+    while tally.compared < cases::MOST && next(&mut input, &mut call) {
         let found = tried(&call);
         tally = tally.with(found);
     }
-    print(tally);
+    print(&rt, tally)
 }

@@ -5,7 +5,8 @@
 #![tactic(auto)]
 
 use cases::{Compared, Tally};
-use libc::STDOUT_FILENO;
+use std::io;
+use std::io::Read;
 
 // Lent counts before a call: bytes A5, so that what is not written shows.
 const FOUND: u64 = 0xa5a5_a5a5_a5a5_a5a5;
@@ -43,27 +44,21 @@ fn tried(recorded: &mut [u8; 64], k: u64) -> Compared {
 }
 
 // The next recorded call, and whether there is one.
-fn next(recorded: &mut [u8; 64]) -> bool {
-    cases::read(recorded, 64) == 64
+fn next(input: &mut impl Read, recorded: &mut [u8; 64]) -> bool {
+    cases::read(input, recorded, 64) == 64
 }
 
-fn print(tally: Tally) {
-    io::print_decimal(STDOUT_FILENO, tally.compared);
-    io::write_all(STDOUT_FILENO, b" compared, ");
-    io::print_decimal(STDOUT_FILENO, tally.differ);
-    io::write_all(STDOUT_FILENO, b" differ; ");
-    io::print_decimal(STDOUT_FILENO, tally.compared);
-    io::write_all(STDOUT_FILENO, b" falsified, ");
-    io::print_decimal(STDOUT_FILENO, tally.differ_falsified);
-    io::write_all(STDOUT_FILENO, b" differ\n");
+fn print(rt: &impl Print, tally: Tally) -> io::Result<()> {
+    cases::print(rt, tally)
 }
 
-fn main() {
+fn main(rt: HostRuntime) -> io::Result<()> {
+    let mut input = rt.stdin();
     let mut recorded = [0u8; 64];
     let mut tally = Tally::none();
-    while tally.compared < cases::MOST && next(&mut recorded) {
+    while tally.compared < cases::MOST && next(&mut input, &mut recorded) {
         let found = tried(&mut recorded, tally.compared);
         tally = tally.with(found);
     }
-    print(tally);
+    print(&rt, tally)
 }

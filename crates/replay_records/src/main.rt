@@ -8,7 +8,8 @@
 ghost use Rattle.std.specs.Prelude.{◌≡◌, length};
 
 use cases::{Compared, Tally};
-use libc::STDOUT_FILENO;
+use std::io;
+use std::io::Read;
 
 // Lent memory is filled with bytes A5 before a call, so that what is not written shows.
 const FOUND_U32: u32 = 0xa5a5_a5a5;
@@ -66,13 +67,13 @@ fn placed_length(parts: u8) -> usize {
 }
 
 // The next call, for a place.
-fn placed(number: u8, length: usize, left: usize, k: u64) -> Compared {
+fn placed(input: &mut impl Read, number: u8, length: usize, left: usize, k: u64) -> Compared {
     let mut place = [0u8; 8];
     let mut file = [0u8; 1024];
     let mut after = [0u8; 184];
-    cases::read(&mut place, 8);
-    let f = cases::read(&mut file, length);
-    let n = cases::read(&mut after, left);
+    cases::read(input, &mut place, 8);
+    let f = cases::read(input, &mut file, length);
+    let n = cases::read(input, &mut after, left);
     placed_twice(
         words::u64_at(&place, 0),
         &file[..f],
@@ -164,11 +165,11 @@ fn read_twice(bytes: &[u8], number: u8, value: &mut [u8], k: u64) -> Compared {
 }
 
 // The next call, which reads a record.
-fn read(number: u8, length: usize, k: u64) -> Compared {
+fn read(input: &mut impl Read, number: u8, length: usize, k: u64) -> Compared {
     let mut bytes = [0u8; 1024];
     let mut value = [0u8; 176];
-    let f = cases::read(&mut bytes, length);
-    let n = cases::read(&mut value, 176);
+    let f = cases::read(input, &mut bytes, length);
+    let n = cases::read(input, &mut value, 176);
     read_twice(&bytes[..f], number, &mut value[..n], k)
 }
 
@@ -207,49 +208,43 @@ fn found() -> [u8; 1024] {
 }
 
 // The next call, which writes a record.
-fn written(number: u8, length: usize, k: u64) -> Compared {
+fn written(input: &mut impl Read, number: u8, length: usize, k: u64) -> Compared {
     let mut value = [0u8; 176];
     let mut out = found();
     let mut after = [0u8; 1024];
-    cases::read(&mut value, 176);
-    let n = cases::read(&mut after, length);
+    cases::read(input, &mut value, 176);
+    let n = cases::read(input, &mut after, length);
     written_twice(&value, &mut out[..n], number, &mut after[..n], k)
 }
 
 // The next call, which is call k. Its first eight bytes are read already.
-fn tried(head: &[u8; 8], k: u64) -> Compared {
+fn tried(input: &mut impl Read, head: &[u8; 8], k: u64) -> Compared {
     let length = size(head[4], head[5]);
     if head[0] == 0 {
-        return placed(head[1], length, placed_length(head[2]), k);
+        return placed(input, head[1], length, placed_length(head[2]), k);
     }
     if head[0] == 1 {
-        return read(head[1], length, k);
+        return read(input, head[1], length, k);
     }
-    written(head[1], length, k)
+    written(input, head[1], length, k)
 }
 
 // The next call's first eight bytes, and whether there are any.
-fn next(head: &mut [u8; 8]) -> bool {
-    cases::read(head, 8) == 8
+fn next(input: &mut impl Read, head: &mut [u8; 8]) -> bool {
+    cases::read(input, head, 8) == 8
 }
 
-fn print(tally: Tally) {
-    io::print_decimal(STDOUT_FILENO, tally.compared);
-    io::write_all(STDOUT_FILENO, b" compared, ");
-    io::print_decimal(STDOUT_FILENO, tally.differ);
-    io::write_all(STDOUT_FILENO, b" differ; ");
-    io::print_decimal(STDOUT_FILENO, tally.compared);
-    io::write_all(STDOUT_FILENO, b" falsified, ");
-    io::print_decimal(STDOUT_FILENO, tally.differ_falsified);
-    io::write_all(STDOUT_FILENO, b" differ\n");
+fn print(rt: &impl Print, tally: Tally) -> io::Result<()> {
+    cases::print(rt, tally)
 }
 
-fn main() {
+fn main(rt: HostRuntime) -> io::Result<()> {
+    let mut input = rt.stdin();
     let mut head = [0u8; 8];
     let mut tally = Tally::none();
-    while tally.compared < cases::MOST && next(&mut head) {
-        let found = tried(&head, tally.compared);
+    while tally.compared < cases::MOST && next(&mut input, &mut head) {
+        let found = tried(&mut input, &head, tally.compared);
         tally = tally.with(found);
     }
-    print(tally);
+    print(&rt, tally)
 }

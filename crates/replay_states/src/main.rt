@@ -11,7 +11,8 @@
 ghost use Rattle.std.specs.Prelude.{◌≤◌};
 
 use cases::{Compared, Tally};
-use libc::STDOUT_FILENO;
+use std::io;
+use std::io::Read;
 
 // A length of two bytes, the lower one first.
 fn size(low: u8, high: u8) -> usize {
@@ -163,19 +164,19 @@ fn compare(
 }
 
 // The next input, which is input k. Its first eight bytes are read already. An answer that ends early differs.
-fn tried(head: &[u8; 8], k: u64) -> Compared {
+fn tried(input: &mut impl Read, head: &[u8; 8], k: u64) -> Compared {
     let mut receptions = [0u8; 16384];
     let mut clock = [0u8; 16384];
     let mut altitude = [0u8; 256];
     let mut reference = [0u8; 256];
     let mut recorded = [0u8; 8];
     let mut recorded_states = [0u8; 640];
-    let r = cases::read(&mut receptions, size(head[0], head[1]));
-    let c = cases::read(&mut clock, size(head[2], head[3]));
-    let a = cases::read(&mut altitude, size(head[4], 0));
-    let f = cases::read(&mut reference, size(head[5], 0));
-    let began = cases::read(&mut recorded, 8) == 8;
-    let whole = cases::read(&mut recorded_states, 640) == 640;
+    let r = cases::read(input, &mut receptions, size(head[0], head[1]));
+    let c = cases::read(input, &mut clock, size(head[2], head[3]));
+    let a = cases::read(input, &mut altitude, size(head[4], 0));
+    let f = cases::read(input, &mut reference, size(head[5], 0));
+    let began = cases::read(input, &mut recorded, 8) == 8;
+    let whole = cases::read(input, &mut recorded_states, 640) == 640;
     let found = compare(
         &receptions[..r],
         &clock[..c],
@@ -193,27 +194,21 @@ fn tried(head: &[u8; 8], k: u64) -> Compared {
 }
 
 // The next input's first eight bytes, and whether there are any.
-fn next(head: &mut [u8; 8]) -> bool {
-    cases::read(head, 8) == 8
+fn next(input: &mut impl Read, head: &mut [u8; 8]) -> bool {
+    cases::read(input, head, 8) == 8
 }
 
-fn print(tally: Tally) {
-    io::print_decimal(STDOUT_FILENO, tally.compared);
-    io::write_all(STDOUT_FILENO, b" compared, ");
-    io::print_decimal(STDOUT_FILENO, tally.differ);
-    io::write_all(STDOUT_FILENO, b" differ; ");
-    io::print_decimal(STDOUT_FILENO, tally.compared);
-    io::write_all(STDOUT_FILENO, b" falsified, ");
-    io::print_decimal(STDOUT_FILENO, tally.differ_falsified);
-    io::write_all(STDOUT_FILENO, b" differ\n");
+fn print(rt: &impl Print, tally: Tally) -> io::Result<()> {
+    cases::print(rt, tally)
 }
 
-fn main() {
+fn main(rt: HostRuntime) -> io::Result<()> {
+    let mut input = rt.stdin();
     let mut head = [0u8; 8];
     let mut tally = Tally::none();
-    while tally.compared < cases::MOST && next(&mut head) {
-        let found = tried(&head, tally.compared);
+    while tally.compared < cases::MOST && next(&mut input, &mut head) {
+        let found = tried(&mut input, &head, tally.compared);
         tally = tally.with(found);
     }
-    print(tally);
+    print(&rt, tally)
 }

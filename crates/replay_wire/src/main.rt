@@ -6,7 +6,8 @@
 #![tactic(auto)]
 
 use cases::{Compared, Tally};
-use libc::STDOUT_FILENO;
+use std::io;
+use std::io::Read;
 
 // Lent memory is filled with bytes A5 before a call, so that what is not written shows.
 const FOUND_I32: i32 = -0x5a5a_5a5b;
@@ -56,11 +57,11 @@ fn written_twice(bytes: &[u8], number: u8, after: &mut [u8], k: u64) -> Compared
 }
 
 // The next call, which writes the position of a record.
-fn written(number: u8, length: usize, k: u64) -> Compared {
+fn written(input: &mut impl Read, number: u8, length: usize, k: u64) -> Compared {
     let mut bytes = [0u8; 1024];
     let mut after = [0u8; 12];
-    let f = cases::read(&mut bytes, length);
-    let n = cases::read(&mut after, 12);
+    let f = cases::read(input, &mut bytes, length);
+    let n = cases::read(input, &mut after, 12);
     written_twice(&bytes[..f], number, &mut after[..n], k)
 }
 
@@ -93,44 +94,38 @@ fn placed_twice(whole: &[u8; 12], number: u8, after: &mut [u8], k: u64) -> Compa
 }
 
 // The next call, which reads whole numbers back.
-fn placed(number: u8, k: u64) -> Compared {
+fn placed(input: &mut impl Read, number: u8, k: u64) -> Compared {
     let mut whole = [0u8; 12];
     let mut after = [0u8; 24];
-    cases::read(&mut whole, 12);
-    let n = cases::read(&mut after, 24);
+    cases::read(input, &mut whole, 12);
+    let n = cases::read(input, &mut after, 24);
     placed_twice(&whole, number, &mut after[..n], k)
 }
 
 // The next call, which is call k. Its first eight bytes are read already.
-fn tried(head: &[u8; 8], k: u64) -> Compared {
+fn tried(input: &mut impl Read, head: &[u8; 8], k: u64) -> Compared {
     if head[0] == 0 {
-        return written(head[1], size(head[4], head[5]), k);
+        return written(input, head[1], size(head[4], head[5]), k);
     }
-    placed(head[1], k)
+    placed(input, head[1], k)
 }
 
 // The next call's first eight bytes, and whether there are any.
-fn next(head: &mut [u8; 8]) -> bool {
-    cases::read(head, 8) == 8
+fn next(input: &mut impl Read, head: &mut [u8; 8]) -> bool {
+    cases::read(input, head, 8) == 8
 }
 
-fn print(tally: Tally) {
-    io::print_decimal(STDOUT_FILENO, tally.compared);
-    io::write_all(STDOUT_FILENO, b" compared, ");
-    io::print_decimal(STDOUT_FILENO, tally.differ);
-    io::write_all(STDOUT_FILENO, b" differ; ");
-    io::print_decimal(STDOUT_FILENO, tally.compared);
-    io::write_all(STDOUT_FILENO, b" falsified, ");
-    io::print_decimal(STDOUT_FILENO, tally.differ_falsified);
-    io::write_all(STDOUT_FILENO, b" differ\n");
+fn print(rt: &impl Print, tally: Tally) -> io::Result<()> {
+    cases::print(rt, tally)
 }
 
-fn main() {
+fn main(rt: HostRuntime) -> io::Result<()> {
+    let mut input = rt.stdin();
     let mut head = [0u8; 8];
     let mut tally = Tally::none();
-    while tally.compared < cases::MOST && next(&mut head) {
-        let found = tried(&head, tally.compared);
+    while tally.compared < cases::MOST && next(&mut input, &mut head) {
+        let found = tried(&mut input, &head, tally.compared);
         tally = tally.with(found);
     }
-    print(tally);
+    print(&rt, tally)
 }

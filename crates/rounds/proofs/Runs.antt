@@ -89,4 +89,4 @@ pub of-problem
     : (P : Problem) (kept : Subset) (reference : ℤ) → kept ≡ kept_at P.time P.site_mm P.n → reference ≡ P.reference_ps
     → outlier_rounds (setting_of (receptions_of P) kept reference) ≡ solve_problem P
 unfolding solve_problem
-of-problem P kept reference k e = ap₂ (λ (K : Subset) (r : ℤ). outlier_rounds (setting_of (receptions_of P) K r)) k e
+of-problem P _ reference k e = ap₂ (λ (K : Subset) (r : ℤ). outlier_rounds (setting_of (receptions_of P) K r)) k e

@@ -1,7 +1,7 @@
 -- The outlier rule over an array of residuals: its loops, and that it comes to the same over residuals that are equal. Assumes nothing.
 use Rattle.std.proofs.Common.{◌≡◌, ℕ, ◌+◌, ◌<◌, Bool, true, false, not, ◌&&◌, T, ltb, ◌⊎◌, sym, refl, ap, ◌∙◌, subst, ap₂, inl, inr, add-one, arith, lt→ltb}
 use mathlib.Core.Option.{Option}
-use lib.Ieee.{Float, nan, lt, le, ne, is_nan}
+use lib.Ieee.{Float, nan, inf, fin, lt, le, ne, is_nan}
 use lib.Ieee.Compare.{differs_from_itself}
 use Rattle.sets.specs.Sets.{Subset, count}
 use Rattle.sets.proofs.Tests.{T→eq, eq→T, and_l, same-T}
@@ -21,6 +21,8 @@ ne-nan x = same-T (ne x x) (is_nan x) (λ t. subst (λ (y : Float). T (is_nan y)
 
     back : (y : Float) → T (is_nan y) → T (ne y y)
     back nan t = tt
+    back (inf s) t = elim t [ ]
+    back (fin s m e) t = elim t [ ]
 
 -- no test has passed yet, one passes, and none does
 pub none_yet : (q : Subset) (i : ℕ) → count q i ≡ 0 → q i ≡ false → count q (i + 1) ≡ 0

@@ -1,7 +1,9 @@
 -- What every answer shows: a mask within n and the degrees of freedom that it stands for, and too few that are too few. Assumes
 -- nothing.
-use Rattle.std.proofs.Common.{◌≡◌, ℕ, ◌+◌, ◌^◌, ◌<◌, ◌≤◌, cond, sym, refl, ap, ◌∙◌, subst, arith}
-use Rattle.sets.specs.Sets.{count}
+use Rattle.std.proofs.Common.{◌≡◌, ℕ, ◌+◌, ◌^◌, ◌<◌, ◌≤◌, cond, List, sym, refl, ap, ◌∙◌, subst, arith}
+use mathlib.Core.Option.{Option}
+use lib.Ieee.{Float}
+use Rattle.sets.specs.Sets.{Subset, count}
 use Rattle.sets.specs.Mask.{has}
 use Rattle.sets.proofs.Masks.{mask_lt, count-within}
 use Rattle.problem.specs.declared.Altitude.{Altitude}
@@ -18,7 +20,7 @@ use Rattle.rounds.specs.declared.finish.Unpublished.{Unpublished}
 use Rattle.rounds.specs.declared.finish.Unpublished.TheVariants as unpublished
 use Rattle.rounds.specs.Setting.{fix, refused, of_unfit, of_unpublished}
 use Rattle.rounds.specs.Solve.{has_altitude, solve_problem}
-use Rattle.rounds.specs.Demand.{Fixed, Refused, early, late, few, unnumbered, Found, rounds, remaining}
+use Rattle.rounds.specs.Demand.{Fixed, Ends, Refused, early, late, few, unnumbered, Found, rounds, remaining}
 use Rattle.rounds.specs.Demand as demand
 use Rattle.rounds.proofs.Found.{demand-met}
 
@@ -67,8 +69,11 @@ module _ (P : Problem) (N : P.n ≤ 32) where
   pub too-few : (c : ℕ) → solve_problem P ≡ refused (TooFew c) → c ≤ 3
   too-few c e = go (TooFew c) (((demand-met P N).claim.refusals (TooFew c)).0 e) refl
     where
+      ended : (S : Subset) (p : Option (List Float)) (r : Refusal) → Ends (rounds P) S p r → TooFew c ≡ r → c ≤ 3
+      ended S p r (few h) q = let z : c ≡ count S P.n = same_count c (count S P.n) q in omega (arith, minimum-le P.altitude)
+      ended S p r (demand.unfit u m b) q = absurd (no-unfit c u q)
+      ended S p r (unnumbered f j m b l k n) q = absurd (let z : ◌≡◌ {A = ℕ} 0 1 = cc in omega arith)
+
       go : (r : Refusal) → Refused (rounds P) (remaining P) r → TooFew c ≡ r → c ≤ 3
-      go r (early S p d t (few h)) q = let z : c ≡ count S P.n = same_count c (count S P.n) q in omega (arith, minimum-le P.altitude)
-      go r (early S p d t (demand.unfit u m b)) q = absurd (no-unfit c u q)
-      go r (early S p d t (unnumbered f j m b l k n)) q = absurd (let z : ◌≡◌ {A = ℕ} 0 1 = cc in omega arith)
+      go r (early S p d t h) q = ended S p d h q
       go r (late S p f u t s l) q = absurd (no-unpublished c u q)

@@ -7,33 +7,31 @@
 // folder that cannot be opened and other arguments, and then nothing is written. An output that fails is said there.
 #![tactic(auto)]
 
-use libc::{STDERR_FILENO, STDOUT_FILENO};
+use std::rt::Files;
 
 fn all(a: bool, b: bool, c: bool) -> bool {
     a && b && c
 }
 
 // The record, to standard output.
-fn write(record: &[u8]) {
-    if !io::write_all(STDOUT_FILENO, record) {
-        os::fail(b"solve: standard output");
-    }
+fn write<R: Print + Eprint + Alloc>(rt: &R, record: &[u8]) {
+    host::written(rt, rt.write_all(record), b"solve: standard output");
 }
 
 // Solves the folder's problem, if all of its files that are there can be read.
-fn solve(folder: &[u8]) {
+fn solve<R: Files + Print + Eprint + Alloc>(rt: &R, folder: &[u8]) {
     let mut rs = [0u8; folder::ONE_TOO_MANY];
     let mut cs = [0u8; 8193];
     let mut al = [0u8; 17];
     let mut re = [0u8; 9];
     let mut out = [0u8; 176];
-    let p = folder::read_receptions(folder, &mut rs);
+    let p = folder::read_receptions(rt, folder, &mut rs);
     if !p.read {
         return;
     }
-    let c = folder::read_file(folder, b"clock.bin", &mut cs);
-    let a = folder::read_file(folder, b"altitude.bin", &mut al);
-    let r = folder::read_file(folder, b"reference.bin", &mut re);
+    let c = folder::read_file(rt, folder, b"clock.bin", &mut cs);
+    let a = folder::read_file(rt, folder, b"altitude.bin", &mut al);
+    let r = folder::read_file(rt, folder, b"reference.bin", &mut re);
     let pn = p.n;
     let cn = c.n;
     let an = a.n;
@@ -48,7 +46,7 @@ fn solve(folder: &[u8]) {
             present,
             &mut out,
         );
-        write(&out);
+        write(rt, &out);
     }
 }
 
@@ -60,18 +58,18 @@ fn is_name(word: &[u8]) -> bool {
     word[0] != b'-'
 }
 
-fn main() {
-    let mut path = io::buffer();
-    let n = os::arg(1, &mut path);
-    let count = os::arg_count();
+fn main(rt: HostRuntime) {
+    let mut path = host::buffer();
+    let n = host::arg(&rt, 1, &mut path);
+    let count = host::arg_count(&rt);
     if count < 2 {
-        solve(b".");
+        solve(&rt, b".");
     } else if count == 2 && is_name(&path[..n]) {
-        solve(&path[..n]);
+        solve(&rt, &path[..n]);
     } else {
-        io::write_all(
-            STDERR_FILENO,
-            b"usage: solve [FOLDER], a folder with receptions.bin, clock.bin, altitude.bin, reference.bin\n",
+        host::say(
+            &rt,
+            "usage: solve [FOLDER], a folder with receptions.bin, clock.bin, altitude.bin, reference.bin\n",
         );
     }
 }

@@ -9,17 +9,15 @@
 // what was solved before is written. An input or an output that fails is said there too. On a terminal a line there
 // tells how far it is.
 //
-// With --status it writes how it ended to descriptor 3, one digit, from which the scripts ./solve_many and
-// mlat-solve-many make their exit status: 0 at the stream's end, 3 within a problem, 4 where the input cannot be read,
-// 5 where the output is not taken.
+// A program of the language has no exit status. With --status it writes how it ended to descriptor 3, one digit, from
+// which the scripts ./solve_many and mlat-solve-many make theirs: 0 at the stream's end, 3 within a problem, 4 where
+// the input cannot be read, 5 where the output is not taken.
 #![tactic(auto)]
 
 ghost use Rattle.std.specs.Prelude.{◌≤◌};
 
-use std::fs::OpenOptions;
-use std::io;
-use std::io::{IsTerminal, Read, Write};
-use std::rt::{Clock, Files};
+use std::io::{IsTerminal, Read};
+use std::rt::Clock;
 use stream::Head;
 
 // A proved loop has to end, and nothing says that a stream does: no stream has this many problems.
@@ -42,8 +40,8 @@ const UNWRITTEN: u64 = 5;
 
 const GOES_ON: u64 = 9;
 
-// Where its digit goes: descriptor 3.
-const STATUS: &str = "/dev/fd/3";
+// Where its digit goes.
+const STATUS_FILENO: i32 = 3;
 
 // What became of the next problem: its answer number, or how the stream ends; and how many of its bytes came.
 #[derive(Clone, Copy)]
@@ -68,6 +66,14 @@ struct Watch {
     terminal: bool,
     start: u64,
     last: u64,
+}
+
+fn print(rt: &impl Eprint, text: &str) {
+    host::say(rt, text);
+}
+
+fn print_number(rt: &impl Eprint, number: u64) {
+    host::say(rt, number);
 }
 
 // ---- reading
@@ -173,8 +179,7 @@ fn ended<R: Eprint + Alloc>(rt: &R, input: &mut impl Read, bytes: u64) -> Step {
     if bytes == 0 {
         end = ENDED;
     }
-    if let Some(error) = host::read_error(input) {
-        host::fail(rt, b"solve_many: standard input", error);
+    if !host::sound(rt, input, b"solve_many: standard input") {
         end = UNREAD;
     }
     Step {
@@ -187,8 +192,7 @@ fn ended<R: Eprint + Alloc>(rt: &R, input: &mut impl Read, bytes: u64) -> Step {
 // Writes a record. Whether the stream goes on; where it cannot be written, that is said.
 fn written<R: Print + Eprint + Alloc>(rt: &R, out: &[u8], number: u32, bytes: u64) -> Step {
     let mut end = GOES_ON;
-    if let Err(error) = rt.write_all(out) {
-        host::fail(rt, b"solve_many: standard output", error);
+    if !host::written(rt, rt.write_all(out), b"solve_many: standard output") {
         end = UNWRITTEN;
     }
     Step { end, number, bytes }
@@ -220,7 +224,7 @@ fn next<R: Print + Eprint + Alloc>(rt: &R, input: &mut impl Read) -> Step {
 
 // ---- telling
 
-// Seconds since 1970, or 0 where no clock tells them.
+// Seconds since 1970, 0 where the clock cannot be read.
 fn seconds(rt: &impl Clock) -> u64 {
     match rt.since_1970() {
         Ok(time) => time.as_secs(),
@@ -236,14 +240,17 @@ fn each_second(done: Done, start: u64, now: u64) -> u64 {
 }
 
 fn print_done(rt: &impl Eprint, done: Done, start: u64, now: u64) {
-    let fixes = done.fixes;
-    let refused = done.refused;
-    let each = each_second(done, start, now);
-    let _ = eprint!(rt; "\rsolve_many: {fixes} fixes, {refused} refused, {each} a second");
+    print(rt, "\rsolve_many: ");
+    print_number(rt, done.fixes);
+    print(rt, " fixes, ");
+    print_number(rt, done.refused);
+    print(rt, " refused, ");
+    print_number(rt, each_second(done, start, now));
+    print(rt, " a second");
 }
 
 // Tells how far it is, on a terminal, if a second has passed since.
-fn told(rt: &(impl Clock + Eprint), watch: Watch, done: Done) -> Watch {
+fn told<R: Eprint + Clock>(rt: &R, watch: Watch, done: Done) -> Watch {
     if !watch.terminal {
         return watch;
     }
@@ -261,20 +268,23 @@ fn told(rt: &(impl Clock + Eprint), watch: Watch, done: Done) -> Watch {
 
 // Says where a stream is torn.
 fn print_torn(rt: &impl Eprint, done: Done, step: Step) {
-    let place = done.problems;
-    let begins = done.bytes;
-    let there = step.bytes;
-    let _ = eprintln!(rt;
-        "solve_many: the stream ends within the problem at place {place}, which begins at byte {begins}: {there} bytes \
-        of it are there"
+    print(
+        rt,
+        "solve_many: the stream ends within the problem at place ",
     );
+    print_number(rt, done.problems);
+    print(rt, ", which begins at byte ");
+    print_number(rt, done.bytes);
+    print(rt, ": ");
+    print_number(rt, step.bytes);
+    print(rt, " bytes of it are there\n");
 }
 
 // The last words, and how the stream ended.
-fn last(rt: &(impl Clock + Eprint), watch: Watch, done: Done, step: Step) -> u64 {
+fn last<R: Eprint + Clock>(rt: &R, watch: Watch, done: Done, step: Step) -> u64 {
     if watch.terminal {
         print_done(rt, done, watch.start, seconds(rt));
-        host::say(rt, "\n");
+        print(rt, "\n");
     }
     if step.end == TORN {
         print_torn(rt, done, step);
@@ -305,7 +315,7 @@ fn with(done: Done, step: Step, problems: u64) -> Done {
 }
 
 // Solves problem after problem, to the stream's end. How it ended.
-fn run<R: Clock + Print + Eprint + Alloc>(rt: &R, input: &mut impl Read, terminal: bool) -> u64 {
+fn run<R: Print + Eprint + Alloc + Clock>(rt: &R, input: &mut impl Read, terminal: bool) -> u64 {
     let now = seconds(rt);
     let mut watch = Watch {
         terminal,
@@ -333,23 +343,17 @@ fn run<R: Clock + Print + Eprint + Alloc>(rt: &R, input: &mut impl Read, termina
     ENDED
 }
 
-// Writes the digit of how the stream ended, where descriptor 3 is open.
-fn write_status(rt: &impl Files, end: u64) -> io::Result<()> {
-    let mut file = OpenOptions::new().append(true).open(rt, STATUS)?;
-    write!(file, "{end}")
-}
-
 fn main(rt: HostRuntime) {
     let mut word = [0u8; 16];
     let n = host::arg(&rt, 1, &mut word);
     let status = check::same(&word[..n], b"--status");
-    let count = host::arg_count(&rt);
-    if count > 2 || count == 2 && !status {
-        host::say(&rt, "usage: solve_many [--status] <STREAM >RECORDS\n");
+    if host::arg_count(&rt) > 2 || host::arg_count(&rt) == 2 && !status {
+        print(&rt, "usage: solve_many [--status] <STREAM >RECORDS\n");
         return;
     }
-    let end = run(&rt, &mut rt.stdin(), rt.stderr().is_terminal());
+    let mut input = rt.stdin();
+    let end = run(&rt, &mut input, rt.stderr().is_terminal());
     if status {
-        let _ = write_status(&rt, end);
+        io::print_decimal(STATUS_FILENO, end);
     }
 }

@@ -1,16 +1,16 @@
 -- Every start of a fit has values of binary64 for its components: each is the result of a step, or comes from the round before. Assumes nothing.
 use Rattle.std.proofs.Common.{ℕ, zero, suc, Bool, true, false, cond, leb, List, [], ◌∷◌, ◌++◌, get_or, replicate, arith}
-use lib.Ieee.{Float, binary64, fits}
+use lib.Ieee.{Float, binary64}
 use lib.Ieee.Fits.{add-fits, mul-fits, div-fits, nan-fits}
-use Rattle.binary64.specs.Steps.{◌⊕◌, ◌⊖◌, ◌⊗◌, nought, one, two, decimal}
-use Rattle.geo.specs.Geo.{prime_vertical, to_ecef, from_ecef, enu_basis}
+use Rattle.binary64.specs.Steps.{◌⊖◌, ◌⊗◌, nought, one, two, decimal}
+use Rattle.geo.specs.Geo.{to_ecef, from_ecef, enu_basis}
 use Rattle.geo.specs.declared.Geodetic.{Geodetic}
 use Rattle.dense.specs.Entries.{nth}
 use Rattle.dense.specs.Factor.{Factor, found, refused, cholesky}
 use Rattle.problem.specs.Problem.{four}
 use Rattle.problem.specs.declared.Altitude.{Altitude}
 use Rattle.whitening.proofs.Formatted.{Formatted, formatted}
-use Rattle.starts.specs.Lifted.{size, sent_to, timed, lifted, ring_place, circle_to, ring, centroid}
+use Rattle.starts.specs.Lifted.{timed, lifted, ring_place, circle_to, ring, centroid}
 use Rattle.starts.specs.Bancroft.{lorentz, products_to, rhs_to, pseudo, lambdas, all_finite, place_at, places, crossed, factored, bancroft}
 use Rattle.starts.specs.Starts.{start_height, starts, starts_after}
 

@@ -8,24 +8,23 @@
 // folder that cannot be opened and other arguments, and then nothing is written. An output that fails is said there.
 #![tactic(auto)]
 
-use libc::{STDERR_FILENO, STDOUT_FILENO};
+use std::rt::Files;
 
 fn all(a: bool, b: bool, c: bool) -> bool {
     a && b && c
 }
 
 // Number, detail and states, to standard output.
-fn write(head: &[u8], states: &[u8]) {
-    if io::write_all(STDOUT_FILENO, head) {
-        if io::write_all(STDOUT_FILENO, states) {
-            return;
-        }
+fn write<R: Print + Eprint + Alloc>(rt: &R, head: &[u8], states: &[u8]) {
+    let mut result = rt.write_all(head);
+    if result.is_ok() {
+        result = rt.write_all(states);
     }
-    os::fail(b"tell_why: standard output");
+    host::written(rt, result, b"tell_why: standard output");
 }
 
 // Tells of the folder's problem, if all of its files that are there can be read.
-fn tell(folder: &[u8]) {
+fn tell<R: Files + Print + Eprint + Alloc>(rt: &R, folder: &[u8]) {
     let mut rs = [0u8; folder::ONE_TOO_MANY];
     let mut cs = [0u8; 8193];
     let mut al = [0u8; 17];
@@ -33,13 +32,13 @@ fn tell(folder: &[u8]) {
     let mut head = [0u8; 8];
     let mut states = [0u8; 640];
     let mut detail = 0u32;
-    let p = folder::read_receptions(folder, &mut rs);
+    let p = folder::read_receptions(rt, folder, &mut rs);
     if !p.read {
         return;
     }
-    let c = folder::read_file(folder, b"clock.bin", &mut cs);
-    let a = folder::read_file(folder, b"altitude.bin", &mut al);
-    let r = folder::read_file(folder, b"reference.bin", &mut re);
+    let c = folder::read_file(rt, folder, b"clock.bin", &mut cs);
+    let a = folder::read_file(rt, folder, b"altitude.bin", &mut al);
+    let r = folder::read_file(rt, folder, b"reference.bin", &mut re);
     let pn = p.n;
     let cn = c.n;
     let an = a.n;
@@ -57,7 +56,7 @@ fn tell(folder: &[u8]) {
         );
         words::put_u32(&mut head, 0, number);
         words::put_u32(&mut head, 4, detail);
-        write(&head, &states);
+        write(rt, &head, &states);
     }
 }
 
@@ -69,18 +68,18 @@ fn is_name(word: &[u8]) -> bool {
     word[0] != b'-'
 }
 
-fn main() {
-    let mut path = io::buffer();
-    let n = os::arg(1, &mut path);
-    let count = os::arg_count();
+fn main(rt: HostRuntime) {
+    let mut path = host::buffer();
+    let n = host::arg(&rt, 1, &mut path);
+    let count = host::arg_count(&rt);
     if count < 2 {
-        tell(b".");
+        tell(&rt, b".");
     } else if count == 2 && is_name(&path[..n]) {
-        tell(&path[..n]);
+        tell(&rt, &path[..n]);
     } else {
-        io::write_all(
-            STDERR_FILENO,
-            b"usage: tell_why [FOLDER], a folder with receptions.bin, clock.bin, altitude.bin, reference.bin\n",
+        host::say(
+            &rt,
+            "usage: tell_why [FOLDER], a folder with receptions.bin, clock.bin, altitude.bin, reference.bin\n",
         );
     }
 }

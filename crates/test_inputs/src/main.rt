@@ -12,8 +12,9 @@ ghost use Rattle.receptions.specs.Receptions.{reception_bytes, reception_at, fie
 
 use cases::{Compared, Tally};
 use inputs::{Check, Fault, Given};
-use libc::STDOUT_FILENO;
 use receptions::Fields;
+use std::io;
+use std::io::Read;
 
 const ABSENT: u64 = 0xffff_ffff_ffff_ffff;
 
@@ -106,15 +107,15 @@ fn falsified(header: &[u8; 64], k: u64) -> [u8; 64] {
 }
 
 // The case of this header, which is case k and whose files come next, compared.
-fn tried(header: &[u8; 64], k: u64) -> Compared {
+fn tried(input: &mut impl Read, header: &[u8; 64], k: u64) -> Compared {
     let mut receptions = [0u8; 8200];
     let mut clock = [0u8; 8200];
     let mut altitude = [0u8; 8200];
     let mut reference = [0u8; 8200];
-    let a = cases::read(&mut receptions, length_of(words::u64_at(header, 0)));
-    let b = cases::read(&mut clock, length_of(words::u64_at(header, 8)));
-    let c = cases::read(&mut altitude, length_of(words::u64_at(header, 16)));
-    let d = cases::read(&mut reference, length_of(words::u64_at(header, 24)));
+    let a = cases::read(input, &mut receptions, length_of(words::u64_at(header, 0)));
+    let b = cases::read(input, &mut clock, length_of(words::u64_at(header, 8)));
+    let c = cases::read(input, &mut altitude, length_of(words::u64_at(header, 16)));
+    let d = cases::read(input, &mut reference, length_of(words::u64_at(header, 24)));
     let got = answered(
         &receptions[..a],
         given(header),
@@ -130,27 +131,21 @@ fn tried(header: &[u8; 64], k: u64) -> Compared {
 }
 
 // The next header, and whether there was one.
-fn next(header: &mut [u8; 64]) -> bool {
-    cases::read(header, 64) == 64
+fn next(input: &mut impl Read, header: &mut [u8; 64]) -> bool {
+    cases::read(input, header, 64) == 64
 }
 
-fn print(tally: Tally) {
-    io::print_decimal(STDOUT_FILENO, tally.compared);
-    io::write_all(STDOUT_FILENO, b" compared, ");
-    io::print_decimal(STDOUT_FILENO, tally.differ);
-    io::write_all(STDOUT_FILENO, b" differ; ");
-    io::print_decimal(STDOUT_FILENO, tally.compared);
-    io::write_all(STDOUT_FILENO, b" falsified, ");
-    io::print_decimal(STDOUT_FILENO, tally.differ_falsified);
-    io::write_all(STDOUT_FILENO, b" differ\n");
+fn print(rt: &impl Print, tally: Tally) -> io::Result<()> {
+    cases::print(rt, tally)
 }
 
-fn main() {
+fn main(rt: HostRuntime) -> io::Result<()> {
+    let mut input = rt.stdin();
     let mut header = [0u8; 64];
     let mut tally = Tally::none();
-    while tally.compared < cases::MOST && next(&mut header) {
-        let found = tried(&header, tally.compared);
+    while tally.compared < cases::MOST && next(&mut input, &mut header) {
+        let found = tried(&mut input, &header, tally.compared);
         tally = tally.with(found);
     }
-    print(tally);
+    print(&rt, tally)
 }

@@ -45,18 +45,20 @@ struct Items {
     bytes: [u8; 10],
 }
 
+fn print(rt: &impl Eprint, text: &str) {
+    host::say(rt, text);
+}
+
+fn print_number(rt: &impl Eprint, number: u64) {
+    host::say(rt, number);
+}
+
 // Writes the items, if that is asked. Whether nothing fails; where it does, that is said.
 fn shown<R: Print + Eprint + Alloc>(rt: &R, items: &[u8], asked: bool) -> bool {
     if !asked {
         return true;
     }
-    match rt.write_all(items) {
-        Ok(()) => true,
-        Err(error) => {
-            host::fail(rt, b"write_asterix: standard output", error);
-            false
-        }
-    }
+    host::written(rt, rt.write_all(items), b"write_asterix: standard output")
 }
 
 // The wire's numbers as items.
@@ -163,20 +165,17 @@ fn run<R: Print + Eprint + Alloc>(rt: &R, file: &mut impl Read, write: bool) -> 
 
 // Closes the file. Whether reading on in it does not fail; where it does, that is said.
 fn closed<R: Eprint + Alloc>(rt: &R, mut file: impl Read + Drop, path: &[u8]) -> bool {
-    match host::read_error(&mut file) {
-        None => true,
-        Some(error) => {
-            host::fail(rt, path, error);
-            false
-        }
-    }
+    host::sound(rt, &mut file, path)
 }
 
-fn reason(refusal: u32) -> &'static str {
+fn print_reason(rt: &impl Eprint, refusal: u32) {
     if refusal == refusals::TORN_FILE {
-        "torn file: it is not whole"
+        print(rt, ", torn file: it is not whole\n");
     } else {
-        "malformed record: it breaks a rule that every fix record meets"
+        print(
+            rt,
+            ", malformed record: it breaks a rule that every fix record meets\n",
+        );
     }
 }
 
@@ -185,52 +184,51 @@ fn whole(rt: &impl Eprint, stop: Stop) -> bool {
     if stop.refusal == 0 {
         return stop.shown;
     }
-    let place = stop.records;
-    let refusal = stop.refusal;
-    let reason = reason(refusal);
-    let _ = eprintln!(rt;
-        "write_asterix: the record at place {place} is turned away by {refusal}, {reason}"
-    );
+    print(rt, "write_asterix: the record at place ");
+    print_number(rt, stop.records);
+    print(rt, " is turned away by ");
+    print_number(rt, stop.refusal as u64);
+    print_reason(rt, stop.refusal);
     false
 }
 
 fn print_counts(rt: &impl Eprint, stop: Stop)
     requires { stop.passed ≤ stop.records }
 {
-    let records = stop.records;
-    let written = stop.records - stop.passed;
-    let passed = stop.passed;
-    let _ = eprintln!(rt;
-        "write_asterix: {records} records, {written} written, {passed} passed over (no fix, or beyond the wire)"
-    );
+    print(rt, "write_asterix: ");
+    print_number(rt, stop.records);
+    print(rt, " records, ");
+    print_number(rt, stop.records - stop.passed);
+    print(rt, " written, ");
+    print_number(rt, stop.passed);
+    print(rt, " passed over (no fix, or beyond the wire)\n");
 }
 
 // Goes through the file once, and writes its items and says how many, if that is asked. Whether every record is sound.
 fn pass<R: Files + Print + Eprint + Alloc>(rt: &R, path: &[u8], write: bool) -> bool {
-    match host::open_read(rt, path) {
-        Ok(mut file) => {
-            let stop = run(rt, &mut file, write);
-            let read = closed(rt, file, path);
-            if !read || !whole(rt, stop) {
-                return false;
-            }
-            if write {
-                print_counts(rt, stop);
-            }
-            true
-        }
+    let mut file = match host::open_read(rt, path) {
+        Ok(file) => file,
         Err(error) => {
             host::fail(rt, path, error);
-            false
+            return false;
         }
+    };
+    let stop = run(rt, &mut file, write);
+    let read = closed(rt, file, path);
+    if !read || !whole(rt, stop) {
+        return false;
     }
+    if write {
+        print_counts(rt, stop);
+    }
+    true
 }
 
 fn main(rt: HostRuntime) {
     let mut path = host::buffer();
     let p = host::arg(&rt, 1, &mut path);
     if host::arg_count(&rt) != 2 {
-        host::say(&rt, "usage: write_asterix FILE\n");
+        print(&rt, "usage: write_asterix FILE\n");
     } else if pass(&rt, &path[..p], false) {
         pass(&rt, &path[..p], true);
     }

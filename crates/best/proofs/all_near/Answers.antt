@@ -1,7 +1,6 @@
 -- `best::all_near` meets its contract. The invariant: `so_far` says that the first i sites are near. Assumes nothing.
 use borrow.Author.Rules.{rules}
 use mathlib.Core.Path.{◌≡◌, refl}
-use Prim.Native.Nat.{◌≤◌, ◌-◌}
 use native.Mathlib.Omega.{arith}
 use native.Mathlib.Numerals.{add-one}
 use Rattle.best.specs.Plausible.{near_to}

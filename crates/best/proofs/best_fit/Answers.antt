@@ -1,6 +1,5 @@
 -- `best::best_fit` meets its contract. The whitener is asked first; then the fits are the definition's, and what they come to is its answer
 -- (proofs/Judging.antt). Assumes nothing.
-use borrow.Author.Rules.{rules}
 use mathlib.Core.Path.{refl, ◌∙◌}
 use lib.ListN.{take}
 use Rattle.best.specs.Held.{fits_of, points_to}
@@ -10,15 +9,15 @@ use Rattle.best.proofs.best_fit.Goals as goal
 
 pub judged-requires : goal.judged-requires
 judged-requires c =
-    let made = c.fits2 in
+    let made = c.fits-fitted in
     (c.requires.n_bound.1, c.requires.n_bound.2, fits-placed _ c.args.at.now c.args.count made.result made.ensures (λ x. refl))
 
 pub returns-then-whitener : goal.returns-then-whitener
 returns-then-whitener c =
     let s = c.args in
     let w = c.whitener in
-    let made = c.fits2 in
-    c.judged.ensures ∙ whitened-found s.clock-m2.now s.n s.noise-m2.now s.index.now s.sites.now s.z.now s.k
+    let made = c.fits-fitted in
+    c.judged.ensures ∙ whitened-found s.clock_m2.now s.n s.noise_m2.now s.index.now s.sites.now s.z.now s.k
     s.altitude (points_to s.at.now s.count) w.result _ w.ensures c.if-whitener.true
     (take s.count (fits_of made.result)) (fits-front _ s.at.now s.count made.result made.ensures)
 
@@ -26,5 +25,5 @@ pub returns : goal.returns
 returns c =
     let s = c.args in
     let w = c.whitener in
-    whitened-refused s.clock-m2.now s.n s.noise-m2.now s.index.now s.sites.now s.z.now s.k s.altitude
+    whitened-refused s.clock_m2.now s.n s.noise_m2.now s.index.now s.sites.now s.z.now s.k s.altitude
     (points_to s.at.now s.count) w.result _ w.ensures c.if-whitener.false c.refused.result c.refused.ensures

@@ -1,17 +1,11 @@
 -- `best::converged` meets its contract. The invariant: `so_far` says that one of the first i fits converged. Assumes nothing.
-use borrow.Author.Rules.{rules}
-use mathlib.Core.Path.{◌≡◌, refl, sym, ap, ◌∙◌}
+use mathlib.Core.Path.{◌≡◌}
 use Prim.Native.Nat.{◌≤◌, ◌-◌}
-use native.Mathlib.Omega.{arith}
 use lib.Dec.{ltb}
-use lib.ListN.{length, take, length-map}
-use lib.Seq.{length-take-le}
+use lib.ListN.{take}
 use Rattle.sets.specs.Sets as sets
-use Rattle.damped.specs.declared.Fit.{Fit}
-use Rattle.damped.specs.declared.Placed.{Placed}
 use Rattle.best.specs.Best.{fit_at}
 use Rattle.best.specs.Held.{fits_of}
-use Rattle.best.proofs.Passes.{fit-front, any_next}
 use Rattle.best.proofs.converged.Given as goal
 
 abbrev pub invariant-loop-i : goal.invariant-loop-i

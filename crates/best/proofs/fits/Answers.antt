@@ -3,7 +3,6 @@
 use borrow.Author.Rules.{rules}
 use mathlib.Core.Path.{◌≡◌, ap, ◌∙◌}
 use mathlib.Core.List.{List}
-use Prim.Native.Nat.{◌≤◌, ◌-◌}
 use native.Mathlib.Omega.{arith}
 use lib.ListN.{set, replicate}
 use lib.Ieee.{Float}
@@ -12,7 +11,7 @@ use Rattle.damped.specs.declared.Placed.{Placed}
 use Rattle.damped.specs.Damped.{levenberg_marquardt}
 use Rattle.damped.specs.Held.{placed}
 use Rattle.best.specs.Held.{points_to}
-use Rattle.best.proofs.Passes.{fits_to, fits-turn}
+use Rattle.best.proofs.Passes.{fits-turn}
 use Rattle.best.proofs.fits.Goals as goal
 
 pub loop-i-init : goal.loop-i-init

@@ -1,18 +1,11 @@
 -- `best::fits` meets its contract. The invariant: the first i places hold the fits from the first i starts beside their places, and the others none.
 -- A turn stores one more (`fits-turn`). Assumes nothing.
-use borrow.Author.Rules.{rules}
-use mathlib.Core.Path.{◌≡◌, ap, ◌∙◌}
-use mathlib.Core.List.{List}
+use mathlib.Core.Path.{◌≡◌}
 use Prim.Native.Nat.{◌≤◌, ◌-◌}
-use native.Mathlib.Omega.{arith}
-use lib.ListN.{set, replicate}
-use lib.Ieee.{Float}
 use Rattle.whitening.specs.Held.{chosen}
-use Rattle.damped.specs.declared.Placed.{Placed}
 use Rattle.damped.specs.Damped.{levenberg_marquardt}
 use Rattle.damped.specs.Held.{placed}
-use Rattle.best.specs.Held.{points_to}
-use Rattle.best.proofs.Passes.{fits_to, fits-turn}
+use Rattle.best.proofs.Passes.{fits_to}
 use Rattle.best.proofs.fits.Given as goal
 
 abbrev pub invariant-loop-i : goal.invariant-loop-i

@@ -1,5 +1,4 @@
 -- `best::flying` meets its contract. Both ends are included, and a not-a-number is at neither side of them. Assumes nothing.
-use borrow.Author.Rules.{rules}
 use Rattle.limits.proofs.Constants.{lowest, highest}
 use Rattle.best.proofs.flying.Goals as goal
 

@@ -1,6 +1,5 @@
 -- `best::near` meets its contract. The range is the root of what `dot` gives, by what the three calls ensure, and the test of the root is that of the
 -- square (`near-is`). Assumes nothing.
-use borrow.Author.Rules.{rules}
 use mathlib.Core.Path.{sym}
 use Rattle.linalg.specs.Vec3.{sub}
 use Rattle.problem.specs.Problem.{site_at}

@@ -1,5 +1,4 @@
 -- `best::no_placed` meets its contract: beside no fit stand zeros. Assumes nothing.
-use borrow.Author.Rules.{rules}
 use mathlib.Core.Path.{ap₂}
 use Rattle.geo.specs.declared.Geodetic.{Geodetic}
 use Rattle.damped.specs.declared.Fit.{Fit}

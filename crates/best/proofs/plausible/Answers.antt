@@ -1,5 +1,4 @@
 -- `best::plausible` meets its contract. A height within the limits leaves the ranges, and any other none. Assumes nothing.
-use borrow.Author.Rules.{rules}
 use mathlib.Core.Path.{◌≡◌, ◌∙◌}
 use mathlib.Core.Bool.{Bool, ◌&&◌}
 use mathlib.Core.List.{List}

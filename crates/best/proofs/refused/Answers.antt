@@ -1,5 +1,4 @@
 -- `best::refused` meets its contract: beside the refusal stand no fit, no place and no norm. Assumes nothing.
-use borrow.Author.Rules.{rules}
 use mathlib.Core.Bool.{false}
 use mathlib.Core.Path.{ap₂}
 use Rattle.binary64.specs.Steps.{nought}

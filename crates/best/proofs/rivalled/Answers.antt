@@ -1,8 +1,8 @@
 -- `best::rivalled` meets its contract. The invariant: `so_far` says that one of the first i fits is a rival. Assumes nothing.
 use borrow.Author.Rules.{rules}
-use mathlib.Core.Path.{◌≡◌, refl, sym, ap, ap₂, ◌∙◌}
+use mathlib.Core.Path.{◌≡◌, refl, ap, ap₂, ◌∙◌}
 use mathlib.Core.Bool.{Bool, ◌&&◌, not}
-use Prim.Native.Nat.{ℕ, ◌≤◌, ◌-◌}
+use Prim.Native.Nat.{ℕ}
 use native.Mathlib.Omega.{arith}
 use lib.Dec.{ltb}
 use lib.ListN.{take}
@@ -24,8 +24,8 @@ pub loop-i-preserved : goal.loop-i-preserved
 loop-i-preserved c =
     let s = c.args in
     let at = c.loop-i in
-    let fs = take s.count (fits_of s.t1) in
-    let same = fit-front s.t1 s.count at.i (omega arith) in
+    let fs = take s.count (fits_of s.fits) in
+    let same = fit-front s.fits s.count at.i (omega arith) in
     let rivalry = c.rival.ensures
     ∙ ap₂ (λ (f : Fit) (limit : Float). not (lt (s.best.cost ⊕ decimal 9 0) f.cost) && lt limit (distance s.best f)) same
     c.chi2_limit-limit.ensures in (
@@ -37,6 +37,6 @@ loop-i-preserved c =
 pub returns : goal.returns
 returns c =
     let s = c.args in
-    let fs = take s.count (fits_of s.t1) in
+    let fs = take s.count (fits_of s.fits) in
     let e : c.loop-i.i ≡ s.count = omega arith in
     c.loop-i.invariant.1 ∙ ap (λ (m : ℕ). ltb 0 (sets.count (λ j. has s.mask j && explains_alike s.best (fit_at fs j)) m)) e

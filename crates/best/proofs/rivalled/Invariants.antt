@@ -1,19 +1,13 @@
 -- `best::rivalled` meets its contract. The invariant: `so_far` says that one of the first i fits is a rival. Assumes nothing.
-use borrow.Author.Rules.{rules}
-use mathlib.Core.Path.{◌≡◌, refl, sym, ap, ap₂, ◌∙◌}
-use mathlib.Core.Bool.{Bool, ◌&&◌, not}
-use Prim.Native.Nat.{ℕ, ◌≤◌, ◌-◌}
-use native.Mathlib.Omega.{arith}
+use mathlib.Core.Path.{◌≡◌}
+use mathlib.Core.Bool.{◌&&◌}
+use Prim.Native.Nat.{◌≤◌, ◌-◌}
 use lib.Dec.{ltb}
 use lib.ListN.{take}
-use lib.Ieee.{Float, lt}
-use Rattle.binary64.specs.Steps.{◌⊕◌, decimal}
 use Rattle.sets.specs.Sets as sets
 use Rattle.sets.specs.Mask.{has}
-use Rattle.damped.specs.declared.Fit.{Fit}
-use Rattle.best.specs.Best.{distance, explains_alike, fit_at}
+use Rattle.best.specs.Best.{explains_alike, fit_at}
 use Rattle.best.specs.Held.{fits_of}
-use Rattle.best.proofs.Passes.{fit-front, any_next}
 use Rattle.best.proofs.rivalled.Given as goal
 
 abbrev pub invariant-loop-i : goal.invariant-loop-i

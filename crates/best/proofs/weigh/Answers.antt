@@ -1,5 +1,4 @@
 -- `best::weigh` meets its contract. A fit that did not converge is not weighed. Assumes nothing.
-use borrow.Author.Rules.{rules}
 use Rattle.best.proofs.Passes.{place-at}
 use Rattle.best.proofs.weigh.Goals as goal
 

@@ -2,19 +2,16 @@
 -- other changes nothing (`mask-stays`). Assumes nothing.
 use borrow.Author.Rules.{rules}
 use mathlib.Core.Path.{◌≡◌, refl, sym, ap, ◌∙◌}
-use mathlib.Core.Logic.{⊎_elim}
-use Prim.Native.Nat.{ℕ, ◌≤◌, ◌-◌}
 use native.Mathlib.Omega.{arith}
-use lib.ListN.{take}
 use Rattle.sets.specs.Sets.{Subset, joined}
-use Rattle.sets.specs.Mask.{has}
-use Rattle.best.specs.Best.{fit_at, weighed}
+use Rattle.best.specs.Best.{weighed}
 use Rattle.best.specs.Held.{fits_of}
 use Rattle.best.proofs.Passes.{fit-at, mask_start, mask-joins, mask-stays}
+use Rattle.best.proofs.weighed.Goals.{then-weigh, else-weigh}
 use Rattle.best.proofs.weighed.Goals as goal
 
 pub loop-i-init : goal.loop-i-init
-loop-i-init c = (search rules, mask_start (weighed c.args.sites.now c.args.k) refl (fits_of c.args.t3))
+loop-i-init c = (search rules, mask_start (weighed c.args.sites.now c.args.k) refl (fits_of c.args.fits))
 
 pub weigh-requires : goal.weigh-requires
 weigh-requires c = (c.requires.0, c.requires.2 c.loop-i.i (omega arith))
@@ -25,13 +22,14 @@ loop-i-preserved c =
     let at = c.loop-i in
     let test = c.weigh in
     let p = weighed s.sites.now s.k in
-    let told = ap p (fit-at s.t3 at.i) ∙ sym test.ensures in (
+    let told = ap p (fit-at s.fits at.i) ∙ sym test.ensures in (
       omega arith,
-      ⊎_elim
-          (λ w. rw w.2 (w.1.ensures.0 ∙ ap (λ (S : Subset). joined S at.i) at.invariant.1
-          ∙ mask-joins p refl (fits_of s.t3) at.i (told ∙ w.0.taken)))
-          (λ w. rw w.1 (at.invariant.1 ∙ mask-stays p refl (fits_of s.t3) at.i (told ∙ w.0.left)))
-          c.if-weigh.branch,
+      elim c.if-weigh.branch [
+        | then-weigh w ↦
+            rw w.mask-is (w.joined-mask.ensures.0 ∙ ap (λ (S : Subset). joined S at.i) at.invariant.1
+            ∙ mask-joins p refl (fits_of s.fits) at.i (told ∙ w.if-weigh.true))
+        | else-weigh w ↦ rw w.mask-is (at.invariant.1 ∙ mask-stays p refl (fits_of s.fits) at.i (told ∙ w.if-weigh.false))
+      ],
     )
 
 pub returns : goal.returns

@@ -1,16 +1,11 @@
 -- `best::weighed` meets its contract. The invariant: the mask has those of the first i fits that are weighed. A weighed fit joins (`mask-joins`), any
 -- other changes nothing (`mask-stays`). Assumes nothing.
-use borrow.Author.Rules.{rules}
-use mathlib.Core.Path.{◌≡◌, refl, sym, ap, ◌∙◌}
-use mathlib.Core.Logic.{⊎_elim}
+use mathlib.Core.Path.{◌≡◌}
 use Prim.Native.Nat.{ℕ, ◌≤◌, ◌-◌}
-use native.Mathlib.Omega.{arith}
 use lib.ListN.{take}
-use Rattle.sets.specs.Sets.{Subset, joined}
 use Rattle.sets.specs.Mask.{has}
 use Rattle.best.specs.Best.{fit_at, weighed}
 use Rattle.best.specs.Held.{fits_of}
-use Rattle.best.proofs.Passes.{fit-at, mask_start, mask-joins, mask-stays}
 use Rattle.best.proofs.weighed.Given as goal
 
 abbrev pub invariant-loop-i : goal.invariant-loop-i

@@ -1,8 +1,7 @@
--- `count_patterns::print_table` gives each line its number of patterns: by computation. Assumes nothing.
+-- `count_patterns::print_table` gives each line its number of patterns: by computation.
 use mathlib.Core.Path.{refl}
 use native.Mathlib.Omega.{arith}
 use Rattle.patterns.specs.Patterns.{pairs}
-use borrow.Author.Rules.{rules}
 use Rattle.count_patterns.proofs.print_table.Goals as goal
 
 pub line-requires : goal.line-requires

@@ -1,5 +1,4 @@
 -- `damped::accepted` meets its contract. The fields are the definition's, and `small` picks the verdict. Assumes nothing.
-use borrow.Author.Rules.{rules}
 use Rattle.damped.specs.Damped.{accepted}
 use Rattle.damped.proofs.Constants.{least-bits, ten-bits}
 use Rattle.damped.proofs.accepted.Goals as goal

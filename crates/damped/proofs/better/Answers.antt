@@ -1,5 +1,4 @@
 -- `damped::better` meets its contract. Each return is one side of the definition's `&&`. Assumes nothing.
-use borrow.Author.Rules.{rules}
 use Rattle.damped.specs.Damped.{better}
 use Rattle.damped.proofs.better.Goals as goal
 

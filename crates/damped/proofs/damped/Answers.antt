@@ -1,7 +1,5 @@
 -- `damped::damped` meets its contract. The invariant: the first i of the diagonal are raised. Assumes nothing.
-use borrow.Author.Rules.{rules}
 use mathlib.Core.Path.{◌≡◌, refl}
-use Prim.Native.Nat.{◌≤◌, ◌-◌}
 use native.Mathlib.Numerals.{add-one}
 use native.Mathlib.Omega.{arith}
 use Rattle.damped.specs.Damped.{damped_to}

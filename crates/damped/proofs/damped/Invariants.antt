@@ -1,11 +1,7 @@
 -- `damped::damped` meets its contract. The invariant: the first i of the diagonal are raised. Assumes nothing.
-use borrow.Author.Rules.{rules}
-use mathlib.Core.Path.{◌≡◌, refl}
+use mathlib.Core.Path.{◌≡◌}
 use Prim.Native.Nat.{◌≤◌, ◌-◌}
-use native.Mathlib.Numerals.{add-one}
-use native.Mathlib.Omega.{arith}
 use Rattle.damped.specs.Damped.{damped_to}
-use Rattle.damped.proofs.Constants.{least-bits}
 use Rattle.damped.proofs.damped.Given as goal
 
 abbrev pub invariant-loop-i : goal.invariant-loop-i

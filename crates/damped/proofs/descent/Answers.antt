@@ -1,6 +1,5 @@
 -- `damped::descent` meets its contract. The Cholesky's verdict picks the definition's case, and `solve` gives the found one's solution. Assumes
 -- nothing.
-use borrow.Author.Rules.{rules}
 use Rattle.damped.specs.Damped.{descent}
 use Rattle.damped.proofs.descent.Goals as goal
 

@@ -1,5 +1,4 @@
 -- `damped::small` meets its contract. Each return follows the definition's `&&` as far as the tests went. Assumes nothing.
-use borrow.Author.Rules.{rules}
 use Rattle.damped.specs.Damped.{small}
 use Rattle.damped.proofs.Constants.{tolerance-bits}
 use Rattle.damped.proofs.small.Goals as goal

@@ -1,12 +1,12 @@
 -- `entry::answered` meets its contract: by the cases of the answer (`Replies`). Assumes nothing.
 use borrow.Author.Rules.{rules}
-use Rattle.entry.proofs.Replies.{is-fix, is-unfixed, fix-reply, refusal-reply, unfixed-reply}
+use Rattle.entry.proofs.Replies.{fix-reply, refusal-reply, unfixed-reply}
 use Rattle.entry.proofs.answered.Goals as goal
 
 pub returns-in-Fix : goal.returns-in-Fix
 returns-in-Fix c = λ a e. fix-reply c.args.n c.args.altitude
     c.args.answer a e c.fix-bytes.result
-    (is-fix c.args.answer.case c.in-Fix.in-Fix-own.keys1) c.fix-bytes.ensures
+    c.in-Fix.is c.fix-bytes.ensures
 
 pub returns-in-Refused : goal.returns-in-Refused
 returns-in-Refused c =
@@ -17,4 +17,4 @@ returns-in-Refused c =
 pub returns-in-NoFixedPoint : goal.returns-in-NoFixedPoint
 returns-in-NoFixedPoint c = λ a e. unfixed-reply c.args.n c.args.altitude
     c.args.answer a e c.refused-in-NoFixedPoint.result
-    (is-unfixed c.args.answer.case c.in-NoFixedPoint.in-NoFixedPoint-own.keys3) c.refused-in-NoFixedPoint.ensures
+    c.in-NoFixedPoint.is c.refused-in-NoFixedPoint.ensures

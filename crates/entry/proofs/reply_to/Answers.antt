@@ -2,7 +2,7 @@
 use borrow.Author.Rules.{rules}
 use mathlib.Core.Path.{◌≡◌, refl, sym, ap, ◌∙◌}
 use mir.Syntax.{w64}
-use mir.Val.{to_z, of_z}
+use mir.Val.{to_z, of_z, SFits}
 use mir.ValLaws.{to_z-of_z}
 use native.Mathlib.Omega.{arith}
 use Prim.Native.Nat.{ℕ}
@@ -15,63 +15,64 @@ use Rattle.rounds.specs.Solve.{solve_problem}
 use Rattle.rounds.specs.Held.{as_answer}
 use Rattle.rounds.proofs.Runs.{of-problem}
 use Rattle.entry.specs.Reply.{reply}
-use Rattle.entry.proofs.Replies.{is-passed, many-away, came-whole, torn-or-whole, refused-reply, problem-reply}
+use Rattle.entry.proofs.Replies.{many-away, came-whole, torn-or-whole, refused-reply, problem-reply}
 use Rattle.entry.proofs.reply_to.Goals as goal
-
-abbrev lent : goal.Start → (ℕ → Reception) → Given → Inputs
-lent s at g = inputs_of s.args.whole s.args.n at g s.args.clock.now s.args.altitude.now s.args.reference.now
 
 pub turned_away-requires : goal.turned_away-requires
 turned_away-requires c =
+    let lent : (ℕ → Reception) → Given → Inputs =
+    λ at g. inputs_of c.args.whole c.args.n at g c.args.clock.now c.args.altitude.now c.args.reference.now in
     let check = c.check_inputs-found in
-    many-away (lent c.before.before.before.before.before.before.before.before c.requires.0 c.given-g.result) _
+    many-away (lent c.requires.0 c.given-g.result) _
     (sym (check.ensures c.requires.0 c.requires.1) ∙ c.in-Refused.is)
 
 pub problem_of-p-requires : goal.problem_of-p-requires
 problem_of-p-requires c =
+    let lent : (ℕ → Reception) → Given → Inputs =
+    λ at g. inputs_of c.args.whole c.args.n at g c.args.clock.now c.args.altitude.now c.args.reference.now in
     let check = c.check_inputs-found in
-    let I = lent c.before.before.before.before.before.before.before c.requires.0 c.given-g.result in
-    let e : check_inputs I ≡ Passed = sym (check.ensures c.requires.0 c.requires.1) ∙ is-passed check.result c.in-Passed.in-Passed-own.keys2 in
+    let I = lent c.requires.0 c.given-g.result in
+    let e : check_inputs I ≡ Passed = sym (check.ensures c.requires.0 c.requires.1) ∙ c.in-Passed.is in
     (c.requires.0, (c.requires.1 (few I e), came-whole I e))
 
 pub solve_lent-answer-requires : goal.solve_lent-answer-requires
 solve_lent-answer-requires c =
+    let lent : (ℕ → Reception) → Given → Inputs =
+    λ at g. inputs_of c.args.whole c.args.n at g c.args.clock.now c.args.altitude.now c.args.reference.now in
     let check = c.check_inputs-found in
-    let I = lent c.before.before.before.before.before.before.before.before.before.before.before.before.before.before.before c.requires.0 c.given-g.result in
-    let small = few I (sym (check.ensures c.requires.0 c.requires.1) ∙ is-passed check.result c.in-Passed.in-Passed-own.keys2) in
+    let I = lent c.requires.0 c.given-g.result in
+    let small = few I (sym (check.ensures c.requires.0 c.requires.1) ∙ c.in-Passed.is) in
     (c.problem_of-p.ensures c.requires.0 (c.requires.1 small)).in_domain.most
 
 pub overflow_cast-n : goal.overflow_cast-n
 overflow_cast-n c =
+    let lent : (ℕ → Reception) → Given → Inputs =
+    λ at g. inputs_of c.args.whole c.args.n at g c.args.clock.now c.args.altitude.now c.args.reference.now in
     let check = c.check_inputs-found in
-    let I = lent c.before.before.before.before.before.before.before.before.before.before.before.before.before.before.before.before c.requires.0 c.given-g.result in
-    let h = few I (sym (check.ensures c.requires.0 c.requires.1) ∙ is-passed check.result c.in-Passed.in-Passed-own.keys2) in
+    let I = lent c.requires.0 c.given-g.result in
+    let h = few I (sym (check.ensures c.requires.0 c.requires.1) ∙ c.in-Passed.is) in
     record { fits = omega arith }
 
 pub returns-in-Refused : goal.returns-in-Refused
 returns-in-Refused c = λ at held.
+    let lent : (ℕ → Reception) → Given → Inputs =
+    λ at g. inputs_of c.args.whole c.args.n at g c.args.clock.now c.args.altitude.now c.args.reference.now in
     let check = c.check_inputs-found in
-    refused-reply (lent c.before.before.before.before.before.before.before.before.before at c.given-g.result) check.result (check.ensures at held) c.turned_away.result _
+    refused-reply (lent at c.given-g.result) check.result (check.ensures at held) c.turned_away.result _
     c.in-Refused.is c.turned_away.ensures
-    ∙ ap (λ (g : Given). reply (lent c.before.before.before.before.before.before.before.before.before at g)) c.given-g.ensures
-
--- what is lent is the problem's
-answer-is
-    : (c : goal.After-solve_lent-answer) → c.solve_lent-answer.result
-    ≡ as_answer (solve_problem c.problem_of-p.result)
-answer-is c =
-    let p = c.problem_of-p.result in
-    let told = c.struct_told-1.given in
-    let same = to_z-of_z w64 p.reference_ps (record { sfits = told.1.1.1.1.1.1.1.1.0.1 }) in
-    c.solve_lent-answer.ensures ∙ ap as_answer (of-problem p _ (to_z w64 (of_z w64 p.reference_ps)) refl same)
+    ∙ ap (λ (g : Given). reply (lent at g)) c.given-g.ensures
 
 pub returns-in-Passed : goal.returns-in-Passed
 returns-in-Passed c = λ at held.
+    let lent : (ℕ → Reception) → Given → Inputs =
+    λ at g. inputs_of c.args.whole c.args.n at g c.args.clock.now c.args.altitude.now c.args.reference.now in
     let check = c.check_inputs-found in
     let p = c.problem_of-p in
-    let I = lent c.before.before.before.before.before.before.before.before.before.before.before.before.before.before.before.before.before at c.given-g.result in
-    let passes = is-passed check.result c.in-Passed.in-Passed-own.keys2 in
+    let I = lent at c.given-g.result in
+    let passes = c.in-Passed.is in
     let small = few I (sym (check.ensures at held) ∙ passes) in
+    let f : SFits w64 p.result.reference_ps = search rules in
+    let told = c.solve_lent-answer.ensures ∙ ap as_answer (of-problem p.result _ (to_z w64 (of_z w64 p.result.reference_ps)) refl (to_z-of_z w64 p.result.reference_ps f)) in
     problem-reply I check.result (check.ensures at held) c.answered.result p.result passes
-    ((p.ensures at (held small)).problem ∙ torn-or-whole I) (c.answered.ensures (solve_problem p.result) (answer-is c.before))
-    ∙ ap (λ (g : Given). reply (lent c.before.before.before.before.before.before.before.before.before.before.before.before.before.before.before.before.before at g)) c.given-g.ensures
+    ((p.ensures at (held small)).problem ∙ torn-or-whole I) (c.answered.ensures (solve_problem p.result) told)
+    ∙ ap (λ (g : Given). reply (lent at g)) c.given-g.ensures

@@ -9,18 +9,18 @@ use Rattle.entry.specs.Reply.{given}
 use Rattle.entry.proofs.Written.{short-promise, whole-promise}
 use Rattle.entry.proofs.solve_fields.Goals as goal
 
-abbrev lent : goal.Start → (ℕ → Reception) → Inputs
-lent s at = inputs_of s.args.whole s.args.n at (given s.args.present) s.args.clock.now s.args.altitude.now
-    s.args.reference.now
-
 pub returns-then-out-lt-RECORD : goal.returns-then-out-lt-RECORD
 returns-then-out-lt-RECORD c = λ at held.
-    short-promise (lent c.before.before.before.before.before at) c.args.out.now c.if-out-lt-RECORD.true
+    let lent : (ℕ → Reception) → Inputs =
+    λ at. inputs_of c.args.whole c.args.n at (given c.args.present) c.args.clock.now c.args.altitude.now c.args.reference.now in
+    short-promise (lent at) c.args.out.now c.if-out-lt-RECORD.true
 
 pub returns : goal.returns
 returns c = λ at held.
+    let lent : (ℕ → Reception) → Inputs =
+    λ at. inputs_of c.args.whole c.args.n at (given c.args.present) c.args.clock.now c.args.altitude.now c.args.reference.now in
     let reply = c.reply_to-r in
     let store = c.store in
     let sized : length reply.result.bytes ≡ 176 = search rules in
-    whole-promise (lent c.before.before.before.before.before.before.before.before.before.before.before at) c.args.out.now c.if-out-lt-RECORD.false reply.result _
+    whole-promise (lent at) c.args.out.now c.if-out-lt-RECORD.false reply.result _
     (reply.ensures at held) sized store.ensures

@@ -1,51 +1,48 @@
 -- `inputs::check_inputs` meets its contract: in the order of the definition (`torn`, `many`, `rest`). Assumes nothing.
-use borrow.Author.Rules.{rules}
 use mathlib.Core.Path.{◌≡◌, sym, ◌∙◌}
-use mathlib.Core.Bool.{true}
-use borrow.Author.Tests.{not-true, not-false, le-leb, lt-leb}
+use mathlib.Core.Bool.{Bool, true, false}
+use mathlib.Core.List.{List}
+use borrow.Author.Tests.{le-leb, lt-leb}
 use Prim.Native.Nat.{ℕ}
 use Rattle.receptions.specs.declared.Reception.{Reception}
-use Rattle.receptions.specs.Receptions.{no_reception}
-use Rattle.inputs.specs.Inputs.{Inputs, inputs_of, sized, untorn}
+use Rattle.inputs.specs.declared.Given.{Given}
+use Rattle.inputs.specs.Inputs.{Inputs, inputs_of, if_there, sized, untorn}
 use Rattle.inputs.proofs.Order.{covered-by, torn-1, torn-2, torn-3, all_whole, torn, many, rest}
 use Rattle.inputs.proofs.check_inputs.Goals as goal
 
-abbrev lent : goal.Start → (ℕ → Reception) → Inputs
-lent s at = inputs_of s.args.whole s.args.n at s.args.g s.args.clock.now s.args.altitude.now s.args.reference.now
-
--- the altitude passed its test of wholeness, and all three tests passed
-altitude-whole : (c : goal.Else-not-sized) (at : ℕ → Reception) → sized 16 (lent c.before.before.before.before.before.before at).altitude ≡ true
-altitude-whole c at = sym c.sized.ensures ∙ not-false c.sized.result c.if-not-sized.false
-
-came-whole : (c : goal.Else-not-sized-2) (at : ℕ → Reception) → untorn (lent c.before.before.before.before.before.before.before.before at) ≡ true
-came-whole c at =
-    all_whole (lent c.before.before.before.before.before.before.before.before at) (not-false c.args.whole c.if-not-whole.false) (altitude-whole c.before.before at)
-    (sym c.sized-2.ensures ∙ not-false c.sized-2.result c.if-not-sized-2.false)
+-- all three tests of wholeness passed
+came-whole
+    : (I : Inputs) {second third : Bool} → I.whole ≡ true → second ≡ sized 16 I.altitude → second ≡ true → third ≡ sized 8 I.reference
+    → third ≡ true → untorn I ≡ true
+came-whole I w s st t tt = all_whole I w (sym s ∙ st) (sym t ∙ tt)
 
 pub returns-then-not-whole : goal.returns-then-not-whole
 returns-then-not-whole c = λ at held.
-    torn (lent c.before.before.before.before at) (torn-1 (lent c.before.before.before.before at) (not-true c.args.whole c.if-not-whole.true))
+    let I = inputs_of c.args.whole c.args.n at c.args.g c.args.clock.now c.args.altitude.now c.args.reference.now in
+    torn I (torn-1 I c.if-not-whole.true)
 
 pub returns-then-not-sized : goal.returns-then-not-sized
 returns-then-not-sized c = λ at held.
-    let I = lent c.before.before.before.before.before.before at in
-    torn I (torn-2 I (sym c.sized.ensures ∙ not-true c.sized.result c.if-not-sized.true))
+    let I = inputs_of c.args.whole c.args.n at c.args.g c.args.clock.now c.args.altitude.now c.args.reference.now in
+    torn I (torn-2 I (sym c.sized.ensures ∙ c.if-not-sized.true))
 
 pub returns-then-not-sized-2 : goal.returns-then-not-sized-2
 returns-then-not-sized-2 c = λ at held.
-    let I = lent c.before.before.before.before.before.before.before.before at in
-    torn I (torn-3 I (sym c.sized-2.ensures ∙ not-true c.sized-2.result c.if-not-sized-2.true))
+    let I = inputs_of c.args.whole c.args.n at c.args.g c.args.clock.now c.args.altitude.now c.args.reference.now in
+    torn I (torn-3 I (sym c.sized-2.ensures ∙ c.if-not-sized-2.true))
 
 pub returns-then-n-gt32 : goal.returns-then-n-gt32
-returns-then-n-gt32 c = λ at held. many (lent c.before.before.before.before.before.before.before.before.before at) (came-whole c.before at)
+returns-then-n-gt32 c = λ at held.
+    let I = inputs_of c.args.whole c.args.n at c.args.g c.args.clock.now c.args.altitude.now c.args.reference.now in
+    many I (came-whole I c.if-not-whole.false c.sized.ensures c.if-not-sized.false c.sized-2.ensures c.if-not-sized-2.false)
     (lt-leb _ _ c.if-n-gt32.true)
 
 pub check_altitude-third-requires : goal.check_altitude-third-requires
-check_altitude-third-requires c =
-    altitude-whole c.before.before.before.before.before (λ i. no_reception)
+check_altitude-third-requires c = sym c.sized.ensures ∙ c.if-not-sized.false
 
 pub returns : goal.returns
 returns c = λ at held.
+    let I = inputs_of c.args.whole c.args.n at c.args.g c.args.clock.now c.args.altitude.now c.args.reference.now in
     c.or_else-3.ensures
     ∙ rw (
       c.or_else-2.ensures,
@@ -56,4 +53,5 @@ returns c = λ at held.
       c.check_receptions-first.ensures at (held c.if-n-gt32.false),
       covered-by c.args.g.clock c.args.clock.now,
     )
-    (rest (lent c.before.before.before.before.before.before.before.before.before.before.before.before.before.before.before.before at) (came-whole c.before.before.before.before.before.before.before.before at) (le-leb _ _ c.if-n-gt32.false))
+    (rest I (came-whole I c.if-not-whole.false c.sized.ensures c.if-not-sized.false c.sized-2.ensures c.if-not-sized-2.false)
+    (le-leb _ _ c.if-n-gt32.false))

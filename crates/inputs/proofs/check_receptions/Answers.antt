@@ -19,7 +19,7 @@ loop-i-init c = (omega arith, refl)
 
 pub loop-i-preserved : goal.loop-i-preserved
 loop-i-preserved c =
-    let f = c.args.t1 in
+    let f = c.args.f in
     let i = c.loop-i.i in (
       omega arith,
       check-next f i c.loop-i.invariant.1
@@ -31,4 +31,4 @@ loop-i-preserved c =
 pub returns : goal.returns
 returns c = λ at e.
     let all : c.loop-i.i ≡ c.args.n = omega arith in
-    rw all at c.loop-i.invariant.1 ∙ first-held c.args.t1 c.args.n c.requires at e
+    rw all at c.loop-i.invariant.1 ∙ first-held c.args.f c.args.n c.requires at e

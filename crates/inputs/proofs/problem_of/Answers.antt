@@ -32,9 +32,9 @@ returns c = λ at filled.
     let a = c.args in
     let some = c.requires in
     let passes =
-    same_check a.t1 a.n (few _ some.1.1) at some.0 filled some.1.0 true a.g a.clock.now a.altitude.now a.reference.now
+    same_check a.f a.n (few _ some.1.1) at some.0 filled some.1.0 true a.g a.clock.now a.altitude.now a.reference.now
     ∙ some.1.1 in
-    is-problem a.t1 a.n at filled a.g a.clock.now a.altitude.now a.reference.now passes
+    is-problem a.f a.n at filled a.g a.clock.now a.altitude.now a.reference.now passes
     c.metres_of-site.ensures c.put_covariance.ensures c.altitude_of-solved_with.ensures
-    (to_z-of_z w64 c.reference_of-reference_ps.result (record { sfits = c.reference_of-reference_ps.type-inv }) ∙ c.reference_of-reference_ps.ensures)
+    (to_z-of_z w64 c.reference_of-reference_ps.result (record { sfits = c.reference_of-reference_ps.type_inv }) ∙ c.reference_of-reference_ps.ensures)
     c.shown_of-shown.ensures

@@ -13,7 +13,7 @@ i64_at-requires c = omega (
 )
 
 pub returns-then-there : goal.returns-then-there
-returns-then-there c = rw (to_z-of_z w64 c.i64_at.result (record { sfits = c.i64_at.type-inv }), c.if-there.true) c.i64_at.ensures
+returns-then-there c = rw (to_z-of_z w64 c.i64_at.result (record { sfits = c.i64_at.type_inv }), c.if-there.true) c.i64_at.ensures
 
 pub returns : goal.returns
 returns c = rw c.if-there.false

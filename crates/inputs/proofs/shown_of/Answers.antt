@@ -2,19 +2,14 @@
 use borrow.Author.Rules.{rules}
 use mathlib.Core.Path.{◌≡◌}
 use borrow.Author.Tests.{eq-eqb, ne_eqb}
-use lib.ListN.{length}
 use Rattle.inputs.proofs.Steps.{sized-there}
 use Rattle.inputs.proofs.shown_of.Goals as goal
 
--- where it is there, it has 16 bytes
-whole : (c : goal.Then-there) → length c.args.altitude.now ≡ 16
-whole c = sized-there 16 c.args.there c.args.altitude.now c.if-there.true c.requires
-
 pub metres_at-metres-requires : goal.metres_at-metres-requires
-metres_at-metres-requires c = whole c
+metres_at-metres-requires c = sized-there 16 c.args.there c.args.altitude.now c.if-there.true c.requires
 
 pub kind_at-requires : goal.kind_at-requires
-kind_at-requires c = whole c.before
+kind_at-requires c = sized-there 16 c.args.there c.args.altitude.now c.if-there.true c.requires
 
 pub returns-then-kind_at-eq1 : goal.returns-then-kind_at-eq1
 returns-then-kind_at-eq1 c = rw (

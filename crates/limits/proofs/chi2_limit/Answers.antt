@@ -1,5 +1,4 @@
 -- `limits::chi2_limit` meets its contract: for every dof above 0 the steps are the definition's, with the root that `sqrt` gives. Assumes nothing.
-use borrow.Author.Rules.{rules}
 use borrow.Author.Tests.{eq-eqb, ne_eqb}
 use Rattle.limits.specs.Limits.{chi2_limit}
 use Rattle.limits.proofs.Constants.{tail-z, nine}

@@ -1,6 +1,5 @@
 -- `limits::moved` meets its contract: the magnitudes are those that `abs` gives, and `rounding-x` and `rounding-t` have the constants' bits. Assumes
 -- nothing.
-use borrow.Author.Rules.{rules}
 use Rattle.limits.specs.Limits.{moved}
 use Rattle.limits.proofs.Constants.{rounding-x, rounding-t}
 use Rattle.limits.proofs.moved.Goals as goal

@@ -1,5 +1,4 @@
 -- `limits::published_chi2_limit` meets its contract: the reach is the definition's, call by call. Assumes nothing.
-use borrow.Author.Rules.{rules}
 use Rattle.limits.specs.Limits.{published_chi2_limit}
 use Rattle.limits.proofs.published_chi2_limit.Goals as goal
 

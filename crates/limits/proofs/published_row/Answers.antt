@@ -1,5 +1,4 @@
 -- `limits::published_row` meets its contract: each entry is what `inflated` makes of the one that `at` reads. Assumes nothing.
-use borrow.Author.Rules.{rules}
 use Rattle.limits.proofs.published_row.Goals as goal
 
 pub returns : goal.returns

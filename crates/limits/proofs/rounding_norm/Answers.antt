@@ -1,11 +1,9 @@
 -- `limits::rounding_norm` meets its contract: after k rows the sum is the running sum of the definition. Assumes nothing.
 use borrow.Author.Rules.{rules}
-use Prim.Native.Nat.{◌≤◌, ◌-◌}
 use mathlib.Core.Path.{◌≡◌, refl}
 use native.Mathlib.Omega.{arith}
 use native.Mathlib.Numerals.{add-one}
 use Rattle.dense.specs.Entries.{dots}
-use Rattle.limits.specs.Limits.{moved_at}
 use Rattle.limits.proofs.rounding_norm.Goals as goal
 
 pub loop-k-init : goal.loop-k-init

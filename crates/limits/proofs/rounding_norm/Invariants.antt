@@ -1,9 +1,6 @@
 -- `limits::rounding_norm` meets its contract: after k rows the sum is the running sum of the definition. Assumes nothing.
-use borrow.Author.Rules.{rules}
 use Prim.Native.Nat.{◌≤◌, ◌-◌}
-use mathlib.Core.Path.{◌≡◌, refl}
-use native.Mathlib.Omega.{arith}
-use native.Mathlib.Numerals.{add-one}
+use mathlib.Core.Path.{◌≡◌}
 use Rattle.dense.specs.Entries.{dots}
 use Rattle.limits.specs.Limits.{moved_at}
 use Rattle.limits.proofs.rounding_norm.Given as goal

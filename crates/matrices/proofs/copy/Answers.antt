@@ -1,10 +1,9 @@
 -- `matrices::copy` meets its contract. The invariant: the first k entries are q's, and out keeps its length. The measure is what
 -- is left of q. Assumes nothing.
-use mathlib.Core.Path.{◌≡◌, refl}
-use Prim.Native.Nat.{◌≤◌, ◌-◌}
+use mathlib.Core.Path.{refl}
 use native.Mathlib.Numerals.{add-one}
 use native.Mathlib.Omega.{arith}
-use lib.ListN.{length, take, length-set}
+use lib.ListN.{length-set}
 use Rattle.matrices.proofs.Copies.{copied, whole}
 use Rattle.matrices.proofs.copy.Goals as goal
 

@@ -1,11 +1,8 @@
 -- `matrices::copy` meets its contract. The invariant: the first k entries are q's, and out keeps its length. The measure is what
 -- is left of q. Assumes nothing.
-use mathlib.Core.Path.{◌≡◌, refl}
+use mathlib.Core.Path.{◌≡◌}
 use Prim.Native.Nat.{◌≤◌, ◌-◌}
-use native.Mathlib.Numerals.{add-one}
-use native.Mathlib.Omega.{arith}
-use lib.ListN.{length, take, length-set}
-use Rattle.matrices.proofs.Copies.{copied, whole}
+use lib.ListN.{length, take}
 use Rattle.matrices.proofs.copy.Given as goal
 
 abbrev pub invariant-loop-k : goal.invariant-loop-k

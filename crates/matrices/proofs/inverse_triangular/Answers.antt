@@ -1,6 +1,5 @@
 -- `matrices::inverse_triangular` meets its contract. The test holds of matching sizes alone, and then what stood in out does not
 -- show (`results-overwritten`). Assumes nothing.
-use borrow.Author.Rules.{rules}
 use mathlib.Core.Path.{◌≡◌, sym, ap, ◌∙◌}
 use mathlib.Core.Bool.{Bool, true, false}
 use mathlib.Core.List.{List}
@@ -17,46 +16,34 @@ use Rattle.matrices.specs.Calls as calls
 use Rattle.matrices.proofs.Sizes.{two}
 use Rattle.matrices.proofs.inverse_triangular.Goals as goal
 
-module _ (c : goal.After-squares) where
-  abbrev n : ℕ
-  n = c.before.before.before.args.n
-
-  abbrev l : List Float
-  l = c.before.before.before.args.l.now
-
-  abbrev out : List Float
-  out = c.before.before.before.args.out.now
-
-  matched : (t : Bool) → c.squares.result ≡ t → squares n (length l) (length out) ≡ t
-  matched t h = sym c.squares.ensures ∙ h
-
+module _ (n : ℕ) (l out : List Float) where
   -- what the test shows where it holds
-  sizes : c.squares.result ≡ true → (n ≤ 32) × (length l ≡ n * n) × (length out ≡ n * n)
-  sizes h = two n (length l) (length out) (matched true h)
+  sizes : squares n (length l) (length out) ≡ true → (n ≤ 32) × (length l ≡ n * n) × (length out ≡ n * n)
+  sizes h = two n (length l) (length out) h
 
-  gives : (t : Bool) → c.squares.result ≡ t → answer t ≡ calls.inverse_triangular_answer n l out
-  gives t h = sym (ap answer (matched t h))
+  gives : (t : Bool) → squares n (length l) (length out) ≡ t → answer t ≡ calls.inverse_triangular_answer n l out
+  gives t h = sym (ap answer h)
 
-  leaves : (t : Bool) → c.squares.result ≡ t → output t (calls.inverse_triangular n l) out ≡ calls.inverse_triangular_output n l out
-  leaves t h = sym (ap (λ (b : Bool). output b (calls.inverse_triangular n l) out) (matched t h))
+  leaves : (t : Bool) → squares n (length l) (length out) ≡ t → output t (calls.inverse_triangular n l) out ≡ calls.inverse_triangular_output n l out
+  leaves t h = sym (ap (λ (b : Bool). output b (calls.inverse_triangular n l) out) h)
 
-  overwritten : c.squares.result ≡ true → triangular.inverse_triangular l n out ≡ calls.inverse_triangular n l
+  overwritten : squares n (length l) (length out) ≡ true → triangular.inverse_triangular l n out ≡ calls.inverse_triangular n l
   overwritten h = results-overwritten.0 l n out (blank n) (sizes h).2 (length-replicate (n * n) nought)
 
 pub inverse_triangular-requires : goal.inverse_triangular-requires
 inverse_triangular-requires c =
-    let s = sizes c.before.before c.if-squares.true in
+    let s = sizes c.args.n c.args.l.now c.args.out.now (sym c.squares.ensures ∙ c.if-squares.true) in
     omega (arith, s.0, s.1, s.2)
 
 pub returns-then-squares : goal.returns-then-squares
 returns-then-squares c =
-    let taken = c.if-squares.true in record {
-      answer = gives c.before.before.before.before.before true taken;
-      output = c.inverse_triangular.ensures ∙ overwritten c.before.before.before.before.before taken ∙ leaves c.before.before.before.before.before true taken;
+    let taken = sym c.squares.ensures ∙ c.if-squares.true in record {
+      answer = gives c.args.n c.args.l.now c.args.out.now true taken;
+      output = c.inverse_triangular.ensures ∙ overwritten c.args.n c.args.l.now c.args.out.now taken ∙ leaves c.args.n c.args.l.now c.args.out.now true taken;
     }
 
 pub returns : goal.returns
 returns c = record {
-      answer = gives c.before false c.if-squares.false;
-      output = leaves c.before false c.if-squares.false;
-    }
+  answer = gives c.args.n c.args.l.now c.args.out.now false (sym c.squares.ensures ∙ c.if-squares.false);
+  output = leaves c.args.n c.args.l.now c.args.out.now false (sym c.squares.ensures ∙ c.if-squares.false);
+}

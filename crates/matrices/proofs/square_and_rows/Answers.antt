@@ -1,6 +1,5 @@
 -- `matrices::square_and_rows` meets its contract. It is what `both` ensures, twice, of what `holds` ensures of each. Assumes
 -- nothing.
-use borrow.Author.Rules.{rules}
 use Rattle.matrices.proofs.square_and_rows.Goals as goal
 
 pub returns : goal.returns

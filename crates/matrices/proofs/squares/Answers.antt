@@ -1,5 +1,4 @@
 -- `matrices::squares` meets its contract. It is what `both` ensures of what `holds` ensures of each. Assumes nothing.
-use borrow.Author.Rules.{rules}
 use Rattle.matrices.proofs.squares.Goals as goal
 
 pub returns : goal.returns

@@ -1,5 +1,4 @@
 -- `matrices::three_squares` meets its contract. It is what `both` ensures of what `holds` and `squares` ensure. Assumes nothing.
-use borrow.Author.Rules.{rules}
 use Rattle.matrices.proofs.three_squares.Goals as goal
 
 pub returns : goal.returns

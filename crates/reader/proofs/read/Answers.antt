@@ -1,6 +1,6 @@
 -- `reader::read` meets its contract. Each return is a case of the definition. Assumes nothing.
 use borrow.Author.Rules.{rules}
-use borrow.Author.Tests.{eq-eqb, ne_eqb, not-true, not-false}
+use borrow.Author.Tests.{eq-eqb, ne_eqb}
 use mathlib.Core.Path.{sym, ◌∙◌}
 use Rattle.reader.specs.Read.{read_of}
 use Rattle.reader.proofs.read.Goals as goal
@@ -13,14 +13,14 @@ pub returns-then-not-meets_rules : goal.returns-then-not-meets_rules
 unfolding read_of
 returns-then-not-meets_rules c =
     let sized = eq-eqb _ _ c.if-bytes-ne-SIZE.false in
-    rw (sized, ← c.meets_rules.ensures, not-true c.meets_rules.result c.if-not-meets_rules.true) c.turned_away-then-not-meets_rules.ensures
+    rw (sized, ← c.meets_rules.ensures, c.if-not-meets_rules.true) c.turned_away-then-not-meets_rules.ensures
 
 pub content_at-content-requires : goal.content_at-content-requires
 content_at-content-requires c =
-    (c.if-bytes-ne-SIZE.false, sym c.meets_rules.ensures ∙ not-false c.meets_rules.result c.if-not-meets_rules.false)
+    (c.if-bytes-ne-SIZE.false, sym c.meets_rules.ensures ∙ c.if-not-meets_rules.false)
 
 pub returns : goal.returns
 unfolding read_of
 returns c =
     let sized = eq-eqb _ _ c.if-bytes-ne-SIZE.false in
-    rw (sized, ← c.meets_rules.ensures, not-false c.meets_rules.result c.if-not-meets_rules.false, c.content_at-content.ensures)
+    rw (sized, ← c.meets_rules.ensures, c.if-not-meets_rules.false, c.content_at-content.ensures)

@@ -2,7 +2,6 @@
 use borrow.Author.Rules.{rules}
 use mathlib.Core.Path.{sym, ◌∙◌}
 use native.Mathlib.Omega.{arith}
-use borrow.Author.Tests.{not-true, not-false}
 use Rattle.reader.proofs.Writing.{short, unread, written}
 use Rattle.reader.proofs.write.Goals as goal
 
@@ -14,10 +13,10 @@ readable-requires c = c.bytes_of-bytes.ensures
 
 pub returns-then-not-readable : goal.returns-then-not-readable
 returns-then-not-readable c = let both = unread c.args.v c.args.out.now c.if-out-lt-SIZE.false
-    (sym c.readable.ensures ∙ not-true c.readable.result c.if-not-readable.true) in record { answer = both.0; output = both.1 }
+    (sym c.readable.ensures ∙ c.if-not-readable.true) in record { answer = both.0; output = both.1 }
 
 pub returns : goal.returns
 returns c = let both = written c.args.v c.args.out.now _ _ c.if-out-lt-SIZE.false
-    (sym c.readable.ensures ∙ not-false c.readable.result c.if-not-readable.false)
+    (sym c.readable.ensures ∙ c.if-not-readable.false)
     c.store.ensures
     c.bytes_of-bytes.ensures in record { answer = both.0; output = both.1 }

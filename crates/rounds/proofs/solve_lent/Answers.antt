@@ -27,4 +27,4 @@ returns c =
     ∙ ap as_answer (solve-cap heard c.screen-kept.result _ c.requires c.count.result c.screen-kept.ensures.1
     c.count.ensures)
     ∙ ap₂ (λ (K : Subset) (r : ℤ). as_answer (outlier_rounds (setting_of heard K r)))
-    c.screen-kept.ensures.0 (to_z-of_z w64 c.args.reference_ps c.ranges.reference-ps)
+    c.screen-kept.ensures.0 (to_z-of_z w64 c.args.reference_ps c.ranges.reference_ps)

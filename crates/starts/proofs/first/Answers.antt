@@ -1,5 +1,4 @@
 -- `starts::first` meets its contract: the flag decides, as in the definition. Assumes nothing.
-use Rattle.std.proofs.Common.{rules}
 use Rattle.starts.specs.Held.{push, packed}
 use Rattle.starts.proofs.first.Goals as goal
 

@@ -1,5 +1,5 @@
 -- `starts::push` meets its contract: there is room, and the four stores are those of the definition, or there is none. Assumes nothing.
-use Rattle.std.proofs.Common.{rules, le-ltb, lt-ltb}
+use Rattle.std.proofs.Common.{le-ltb, lt-ltb}
 use Rattle.starts.specs.Held.{push}
 use Rattle.starts.proofs.push.Goals as goal
 

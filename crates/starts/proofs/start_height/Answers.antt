@@ -1,5 +1,4 @@
 -- `starts::start_height` meets its contract: each arm gives the case of the definition that it matches. Assumes nothing.
-use Rattle.std.proofs.Common.{rules}
 use Rattle.starts.proofs.Constants.{nine-thousand}
 use Rattle.starts.proofs.start_height.Goals as goal
 

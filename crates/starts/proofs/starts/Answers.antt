@@ -1,6 +1,6 @@
 -- `starts::starts` meets its contract: from four on the lifted centroid is packed behind Bancroft's roots (`starts-many`), under four the ring behind
 -- it (`starts-few`). Assumes nothing.
-use Rattle.std.proofs.Common.{arith, rules, le-leb}
+use Rattle.std.proofs.Common.{arith, le-leb}
 use borrow.Author.Tests.{lt-leb}
 use Rattle.starts.specs.Starts.{starts_after}
 use Rattle.starts.proofs.Packed.{starts-many, starts-few}

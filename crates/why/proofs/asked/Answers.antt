@@ -9,65 +9,74 @@ use Rattle.inputs.specs.declared.Check.TheVariants.{Passed}
 use Rattle.inputs.specs.Inputs.{Inputs, inputs_of, check_inputs, problem_of}
 use Rattle.inputs.proofs.Order.{few}
 use Rattle.rounds.specs.Solve.{solve_problem}
-use Rattle.entry.proofs.Replies.{is-passed, came-whole, torn-or-whole}
+use Rattle.entry.proofs.Replies.{came-whole, torn-or-whole}
 use Rattle.why.specs.Why.{verdict, states}
 use Rattle.why.proofs.Verdicts.{away-verdict, away-states, passed-verdict, passed-states}
 use Rattle.why.proofs.asked.Goals as goal
 
-abbrev lent : goal.Start → (ℕ → Reception) → Given → Inputs
-lent s at g =
-    inputs_of s.args.whole s.args.n at g s.args.clock.now s.args.altitude.now s.args.reference.now
-
 pub problem_of-p-requires : goal.problem_of-p-requires
 problem_of-p-requires c =
+    let lent : (ℕ → Reception) → Given → Inputs =
+    λ at g. inputs_of c.args.whole c.args.n at g c.args.clock.now c.args.altitude.now c.args.reference.now in
     let some = c.requires.0 in
-    let I = lent c.before.before.before.before.before.before.before.before some.0 c.given-g.result in
+    let I = lent some.0 c.given-g.result in
     let check = c.check_inputs-found in
-    let e : check_inputs I ≡ Passed = sym (check.ensures some.0 some.1) ∙ is-passed check.result c.in-Passed.in-Passed-own.keys2 in
+    let e : check_inputs I ≡ Passed = sym (check.ensures some.0 some.1) ∙ c.in-Passed.is in
     (some.0, (some.1 (few I e), came-whole I e))
 
 pub solve_problem-answer-requires : goal.solve_problem-answer-requires
 solve_problem-answer-requires c =
+    let lent : (ℕ → Reception) → Given → Inputs =
+    λ at g. inputs_of c.args.whole c.args.n at g c.args.clock.now c.args.altitude.now c.args.reference.now in
     let some = c.requires.0 in
-    let I = lent c.before.before.before.before.before.before.before.before.before some.0 c.given-g.result in
+    let I = lent some.0 c.given-g.result in
     let check = c.check_inputs-found in
-    let small = few I (sym (check.ensures some.0 some.1) ∙ is-passed check.result c.in-Passed.in-Passed-own.keys2) in
+    let small = few I (sym (check.ensures some.0 some.1) ∙ c.in-Passed.is) in
     (c.problem_of-p.ensures some.0 (some.1 small)).in_domain.most
 
 pub explained-requires : goal.explained-requires
 explained-requires c =
-    (solve_problem-answer-requires c.before.before tt, c.requires.1)
+    let lent : (ℕ → Reception) → Given → Inputs =
+    λ at g. inputs_of c.args.whole c.args.n at g c.args.clock.now c.args.altitude.now c.args.reference.now in
+    let some = c.requires.0 in
+    let I = lent some.0 c.given-g.result in
+    let check = c.check_inputs-found in
+    let small = few I (sym (check.ensures some.0 some.1) ∙ c.in-Passed.is) in
+    ((c.problem_of-p.ensures some.0 (some.1 small)).in_domain.most, c.requires.1)
 
 pub returns-in-Refused : goal.returns-in-Refused
 returns-in-Refused c =
+    let lent : (ℕ → Reception) → Given → Inputs =
+    λ at g. inputs_of c.args.whole c.args.n at g c.args.clock.now c.args.altitude.now c.args.reference.now in
     let check = c.check_inputs-found in
     let fault = c.in-Refused.is in
     let number = c.number_of in
     let detail = c.detail_of in
-    let I : (ℕ → Reception) → Inputs = λ (at : ℕ → Reception). lent c.before.before.before.before.before.before.before.before.before.before.before at c.given-g.result in record {
+    let I : (ℕ → Reception) → Inputs = λ (at : ℕ → Reception). lent at c.given-g.result in record {
       verdict = λ at held.
           away-verdict (I at) check.result (check.ensures at held) _ number.result detail.result fault number.ensures detail.ensures
-          ∙ ap (λ (g : Given). verdict (lent c.before.before.before.before.before.before.before.before.before.before.before at g)) c.given-g.ensures;
+          ∙ ap (λ (g : Given). verdict (lent at g)) c.given-g.ensures;
       states = λ at held.
           away-states (I at) check.result (check.ensures at held) _ c.args.out.now fault
-          ∙ ap (λ (g : Given). states (lent c.before.before.before.before.before.before.before.before.before.before.before at g) c.args.out.now) c.given-g.ensures;
+          ∙ ap (λ (g : Given). states (lent at g) c.args.out.now) c.given-g.ensures;
     }
 
 pub returns-in-Passed : goal.returns-in-Passed
 returns-in-Passed c =
+    let lent : (ℕ → Reception) → Given → Inputs =
+    λ at g. inputs_of c.args.whole c.args.n at g c.args.clock.now c.args.altitude.now c.args.reference.now in
     let check = c.check_inputs-found in
     let p = c.problem_of-p in
-    let passes = is-passed check.result c.in-Passed.in-Passed-own.keys2 in
-    let told = (c.explained.ensures.verdict, c.explained.ensures.states) in
+    let passes = c.in-Passed.is in
     let solved = c.solve_problem-answer.ensures in
-    let I : (ℕ → Reception) → Inputs = λ (at : ℕ → Reception). lent c.before.before.before.before.before.before.before.before.before.before.before.before.before.before at c.given-g.result in
+    let I : (ℕ → Reception) → Inputs = λ (at : ℕ → Reception). lent at c.given-g.result in
     let is : (at : ℕ → Reception) → Holds c.args.f c.args.n at → p.result ≡ problem_of (I at) =
     λ at held. (p.ensures at (held (few (I at) (sym (check.ensures at held) ∙ passes)))).problem ∙ torn-or-whole (I at) in record {
       verdict = λ at held.
-          passed-verdict (I at) check.result (check.ensures at held) p.result passes (is at held) _ (told.0 (solve_problem p.result) solved)
-          ∙ ap (λ (g : Given). verdict (lent c.before.before.before.before.before.before.before.before.before.before.before.before.before.before at g)) c.given-g.ensures;
+          passed-verdict (I at) check.result (check.ensures at held) p.result passes (is at held) _ (c.explained.ensures.verdict (solve_problem p.result) solved)
+          ∙ ap (λ (g : Given). verdict (lent at g)) c.given-g.ensures;
       states = λ at held.
           passed-states (I at) check.result (check.ensures at held) p.result passes (is at held) c.args.out.now _
-          (told.1 (solve_problem p.result) solved)
-          ∙ ap (λ (g : Given). states (lent c.before.before.before.before.before.before.before.before.before.before.before.before.before.before at g) c.args.out.now) c.given-g.ensures;
+          (c.explained.ensures.states (solve_problem p.result) solved)
+          ∙ ap (λ (g : Given). states (lent at g) c.args.out.now) c.given-g.ensures;
     }

@@ -2,13 +2,12 @@
 use borrow.Author.Rules.{rules}
 use mathlib.Core.Path.{◌∙◌}
 use Rattle.rounds.specs.declared.answer.Case.TheVariants as case
-use Rattle.entry.proofs.Replies.{is-fix, is-unfixed}
 use Rattle.why.proofs.Verdicts.{verdict-told, states-told, refusal-told}
 use Rattle.why.proofs.explained.Goals as goal
 
 pub returns-in-Fix : goal.returns-in-Fix
 returns-in-Fix c =
-    let is = is-fix c.args.answer.case c.in-Fix.in-Fix-own.keys1 in record {
+    let is = c.in-Fix.is in record {
       verdict = λ a e. verdict-told c.args.answer a e case.Fix is;
       states = λ a e. c.tell.ensures ∙ states-told c.args.answer a e c.args.p c.args.out.now case.Fix is;
     }
@@ -24,7 +23,7 @@ returns-in-Refused c =
 
 pub returns-in-NoFixedPoint : goal.returns-in-NoFixedPoint
 returns-in-NoFixedPoint c =
-    let is = is-unfixed c.args.answer.case c.in-NoFixedPoint.in-NoFixedPoint-own.keys3 in record {
+    let is = c.in-NoFixedPoint.is in record {
       verdict = λ a e. verdict-told c.args.answer a e case.NoFixedPoint is;
       states = λ a e. states-told c.args.answer a e c.args.p c.args.out.now case.NoFixedPoint is;
     }

@@ -15,7 +15,7 @@ loop-i-init c = (omega arith, refl, refl)
 
 pub loop-i-preserved : goal.loop-i-preserved
 loop-i-preserved c =
-    let is = rw c.has.ensures c.before.before.before.before.before.before.before.before.before.before c.state_by-s.ensures in
+    let is = rw c.has.ensures at c.state_by-s.ensures in
     let next = states-next _ _ c.loop-i.i _ _ _ c.loop-i.invariant.2 is c.put_state.ensures in
     (omega arith, ap length next ∙ states-length _ _ _, next)
 

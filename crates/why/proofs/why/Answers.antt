@@ -32,11 +32,10 @@ pub returns : goal.returns
 returns c =
     let a = c.args in
     let at = reception_at a.receptions.now in
-    let asked = (c.asked-verdict.ensures.verdict, c.asked-verdict.ensures.states) in
     let enough = le-ltb (length a.out.now) 640 c.if-out-lt-STATES.false in
     let held = few-held at _ _ c.few.ensures c.of_bytes-f.ensures in
-    let verdict = asked.0 at held in
-    let states = asked.1 at held in record {
+    let verdict = c.asked-verdict.ensures.verdict at held in
+    let states = c.asked-verdict.ensures.states at held in record {
       answer = rw enough (ap (λ (v : Verdict). v.number) verdict);
       states = rw enough states;
       detail = rw enough (ap (λ (v : Verdict). v.detail) verdict);

@@ -1,5 +1,4 @@
--- `count_patterns::lines::with_column` meets its contract. The spaces, and the digits behind them. Assumes nothing.
-use borrow.Author.Rules.{rules}
+-- `count_patterns::lines::with_column` meets its contract. The spaces, and the digits behind them.
 use native.Mathlib.Omega.{arith}
 use Rattle.text.specs.Text.{text_of, decimal}
 use Rattle.text.proofs.Joined.{two-more}
@@ -9,9 +8,7 @@ use Rattle.count_patterns.proofs.lines.with_column.Goals as goal
 pub returns : goal.returns
 unfolding column
 returns c = (
-  two-more (text_of c.args.text) _ _ (spaces c.args.x) (decimal c.args.x)
-      c.with_spaces.ensures.0
-      c.with_number.ensures.0,
+  two-more (text_of c.args.text) _ _ (spaces c.args.x) (decimal c.args.x) c.with_spaces.ensures.0 c.with_number.ensures.0,
   c.with_number.ensures.1,
   omega arith,
 )

@@ -1,32 +1,32 @@
 -- `damped::Lm::step` meets its contract. Each call gives what the definition has in its place, and the test picks its case. The place is that of
 -- `tried`, or the state's. Assumes nothing.
-use borrow.Author.Rules.{rules}
 use Rattle.damped.specs.Damped.{step}
 use Rattle.damped.proofs.Lm.step.Goals as goal
 
 pub tried-requires : goal.tried-requires
 tried-requires c = record {
-      k_bound = c.requires.k_bound;
-      scratch = c.requires.scratch;
-    }
+  k_bound = c.requires.k_bound;
+  scratch = c.requires.scratch;
+}
 
 pub returns-then-found : goal.returns-then-found
 unfolding step
 returns-then-found c = record {
-      stepped_value = rw (
-        ← c.damped-m.ensures,
-        ← c.descent-found.ensures,
-        c.if-found.true,
-        ← c.candidate-candidate.ensures,
-        c.tried.ensures.stepped_value,
-      );
-      place_value = c.tried.ensures.place_value;
-      scratch_2 = c.tried.ensures.scratch_2;
-    }
+  stepped_value = rw (
+    ← c.damped-m.ensures,
+    ← c.descent-found.ensures,
+    c.if-found.true,
+    ← c.candidate-candidate.ensures,
+    c.tried.ensures.stepped_value,
+  );
+  place_value = c.tried.ensures.place_value;
+  scratch_2 = c.tried.ensures.scratch_2;
+}
 
 pub returns : goal.returns
 unfolding step
-returns c = let both = (
-  rw (← c.damped-m.ensures, ← c.descent-found.ensures, c.if-found.false),
-  let pre = (c.requires.k_bound, c.requires.scratch) in (pre.0.1, pre.1),
-) in record { stepped_value = both.0; place_value = both.1.0; scratch_2 = both.1.1 }
+returns c = record {
+  stepped_value = rw (← c.damped-m.ensures, ← c.descent-found.ensures, c.if-found.false);
+  place_value = c.requires.k_bound.1;
+  scratch_2 = c.requires.scratch;
+}

@@ -1,6 +1,5 @@
 -- `damped::fitting::placed` meets its contract. By the kinds of altitude: the last step's place is the fit's where there is one, and `from_ecef`
 -- gives it where not. Assumes nothing.
-use borrow.Author.Rules.{rules}
 use Rattle.damped.proofs.Carried.{found_at, none-at, barometric-at, gnss-at}
 use Rattle.damped.proofs.fitting.placed.Goals as goal
 

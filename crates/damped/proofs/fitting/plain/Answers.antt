@@ -1,5 +1,4 @@
 -- `damped::fitting::plain` meets its contract. The step that `descent` finds decides by the definition's test. Assumes nothing.
-use borrow.Author.Rules.{rules}
 use Rattle.damped.specs.Damped.{plain}
 use Rattle.damped.proofs.fitting.plain.Goals as goal
 

@@ -1,5 +1,4 @@
 -- `damped::fitting::refined` meets its contract. It is the run from the state at the start (`begun`). Assumes nothing.
-use borrow.Author.Rules.{rules}
 use mathlib.Core.Path.{sym, ap, ◌∙◌}
 use Rattle.whitening.specs.Held.{row_place}
 use Rattle.damped.specs.declared.Lm.{Lm}
@@ -8,9 +7,9 @@ use Rattle.damped.proofs.fitting.refined.Goals as goal
 
 pub evaluated-first-requires : goal.evaluated-first-requires
 evaluated-first-requires c = record {
-      k_bound = c.requires.k_bound;
-      scratch = c.requires.scratch;
-    }
+  k_bound = c.requires.k_bound;
+  scratch = c.requires.scratch;
+}
 
 pub run-requires : goal.run-requires
 run-requires c =
@@ -21,7 +20,7 @@ run-requires c =
 
 pub returns : goal.returns
 returns c =
-    let last = (c.run.ensures.fit_value, c.run.ensures.place_value) in record {
-      fit_value = last.0 ∙ begun _ _ _ _ c.evaluated-first.ensures.value c.started-state.ensures;
-      place_value = last.1;
+    let last = c.run.ensures in record {
+      fit_value = last.fit_value ∙ begun _ _ _ _ c.evaluated-first.ensures.value c.started-state.ensures;
+      place_value = last.place_value;
     }

@@ -1,16 +1,12 @@
 -- `damped::fitting::run` meets its contract. The invariant: what is left of the run from this state gives what the whole run gives, the place is the
 -- state's, and the arrays have their room. Each turn and each end is one of the run (`turn`, `ended`). Assumes nothing.
-use borrow.Author.Rules.{rules}
-use mathlib.Core.Path.{◌≡◌, refl, ◌∙◌}
-use mathlib.Core.Logic.{⊎_elim}
-use Prim.Native.Nat.{◌≤◌, ◌-◌}
+use mathlib.Core.Path.{refl, ◌∙◌}
 use native.Mathlib.Omega.{arith}
-use Rattle.whitening.specs.Held.{Scratch, row_place, chosen}
 use Rattle.damped.specs.declared.Verdict.TheVariants.{Accepted, Converged, Rejected, Stopped, Failed}
-use Rattle.damped.specs.Damped.{run}
 use Rattle.damped.proofs.Turns.{turn, ended}
 use Rattle.damped.proofs.Carried.{fitted-at, plain_at, unfitted-at}
 use Rattle.damped.proofs.fitting.run.Goals as goal
+use Rattle.damped.proofs.fitting.run.Goals.{in-Accepted, in-Rejected}
 
 pub loop-n-init : goal.loop-n-init
 loop-n-init c = (omega arith, refl, c.requires.k_bound.1, c.requires.scratch)
@@ -55,10 +51,10 @@ loop-n-preserved c =
     let loop = c.loop-n in
     let test = c.loop-n-test.true in (
       omega (arith, test),
-      ⊎_elim
-          (λ w. turn _ loop.n _ _ _ Accepted test loop.invariant.1 step.ensures.stepped_value w.1.given.1)
-          (λ w. turn _ loop.n _ _ _ Rejected test loop.invariant.1 step.ensures.stepped_value w.1.given.1)
-          c.match-verdict.branch,
+      elim c.match-verdict.branch [
+        | in-Accepted w ↦ turn _ loop.n _ _ _ Accepted test loop.invariant.1 step.ensures.stepped_value w.in-Accepted.is
+        | in-Rejected w ↦ turn _ loop.n _ _ _ Rejected test loop.invariant.1 step.ensures.stepped_value w.in-Rejected.is
+      ],
       step.ensures.place_value,
       step.ensures.scratch_2,
     )

@@ -1,15 +1,9 @@
 -- `damped::fitting::run` meets its contract. The invariant: what is left of the run from this state gives what the whole run gives, the place is the
 -- state's, and the arrays have their room. Each turn and each end is one of the run (`turn`, `ended`). Assumes nothing.
-use borrow.Author.Rules.{rules}
-use mathlib.Core.Path.{◌≡◌, refl, ◌∙◌}
-use mathlib.Core.Logic.{⊎_elim}
+use mathlib.Core.Path.{◌≡◌}
 use Prim.Native.Nat.{◌≤◌, ◌-◌}
-use native.Mathlib.Omega.{arith}
 use Rattle.whitening.specs.Held.{Scratch, row_place, chosen}
-use Rattle.damped.specs.declared.Verdict.TheVariants.{Accepted, Converged, Rejected, Stopped, Failed}
 use Rattle.damped.specs.Damped.{run}
-use Rattle.damped.proofs.Turns.{turn, ended}
-use Rattle.damped.proofs.Carried.{fitted-at, plain_at, unfitted-at}
 use Rattle.damped.proofs.fitting.run.Given as goal
 
 abbrev pub invariant-loop-n : goal.invariant-loop-n

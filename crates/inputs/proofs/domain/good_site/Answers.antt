@@ -9,7 +9,7 @@ use Rattle.inputs.proofs.domain.good_site.Goals as goal
 
 pub returns : goal.returns
 returns c =
-    let site = c.args.t1 in
+    let site = c.args.site in
     c.both-2.ensures
     ∙ rw (
       c.both.ensures,

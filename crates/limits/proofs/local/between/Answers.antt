@@ -1,5 +1,4 @@
 -- `limits::local::between` meets its contract: three turns of `plus_row`, the first from 0. Assumes nothing.
-use borrow.Author.Rules.{rules}
 use Rattle.limits.specs.Local.{between}
 use Rattle.limits.proofs.local.between.Goals as goal
 

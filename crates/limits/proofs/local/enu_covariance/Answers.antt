@@ -1,5 +1,4 @@
 -- `limits::local::enu_covariance` meets its contract: row by row, at the basis that `geo::enu_basis` gives. Assumes nothing.
-use borrow.Author.Rules.{rules}
 use Rattle.limits.specs.Local.{enu_covariance}
 use Rattle.limits.proofs.local.enu_covariance.Goals as goal
 

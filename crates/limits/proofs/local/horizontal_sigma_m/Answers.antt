@@ -1,5 +1,4 @@
 -- `limits::local::horizontal_sigma_m` meets its contract: the root of the greater of half the trace and 0, call by call. Assumes nothing.
-use borrow.Author.Rules.{rules}
 use Rattle.limits.specs.Local.{horizontal_sigma_m}
 use Rattle.limits.proofs.local.horizontal_sigma_m.Goals as goal
 

@@ -40,7 +40,7 @@ number_at-chi2-requires c =
 
 pub returns : goal.returns
 returns c =
-    rw (to_z-of_z w64 c.i64_at-transmit_ps.result (record { sfits = c.i64_at-transmit_ps.type-inv }))
+    rw (to_z-of_z w64 c.i64_at-transmit_ps.result (record { sfits = c.i64_at-transmit_ps.type_inv }))
     (fix-fields c.args.s.now
     c.u32_at-mask.ensures
     c.u32_at-dof.ensures

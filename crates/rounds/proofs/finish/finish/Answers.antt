@@ -20,10 +20,10 @@ returns-then-time c =
     c.covariance-c.ensures
     (sym c.certain.ensures ∙ c.if-certain.true)
     c.transmit-time.result
-    (rw (to_z-of_z w64 c.args.reference_ps c.ranges.reference-ps) at c.transmit-time.ensures)
+    (rw (to_z-of_z w64 c.args.reference_ps c.ranges.reference_ps) at c.transmit-time.ensures)
     c.if-time.true c.fix_of-fix.result
     (rw (moment-read (transmit_ps c.args.reference_ps (transmit_m c.args.fit.params)) c.transmit-time.result
-    (rw (to_z-of_z w64 c.args.reference_ps c.ranges.reference-ps) at c.transmit-time.ensures)
+    (rw (to_z-of_z w64 c.args.reference_ps c.ranges.reference_ps) at c.transmit-time.ensures)
     c.if-time.true) at c.fix_of-fix.ensures))
 
 pub returns-then-certain : goal.returns-then-certain
@@ -35,7 +35,7 @@ returns-then-certain c =
     c.factor.ensures)
     c.covariance-c.ensures
     (sym c.certain.ensures ∙ c.if-certain.true) c.transmit-time.result
-    (rw (to_z-of_z w64 c.args.reference_ps c.ranges.reference-ps) at c.transmit-time.ensures) c.if-time.false)
+    (rw (to_z-of_z w64 c.args.reference_ps c.ranges.reference_ps) at c.transmit-time.ensures) c.if-time.false)
 
 pub returns-then-factor : goal.returns-then-factor
 returns-then-factor c =

@@ -4,4 +4,4 @@ use mir.ValLaws.{to_z-of_z}
 use Rattle.rounds.proofs.finish.fix_of.Goals as goal
 
 pub returns : goal.returns
-returns c = rw (c.requires, to_z-of_z w64 c.args.transmit_ps c.ranges.transmit-ps)
+returns c = rw (c.requires, to_z-of_z w64 c.args.transmit_ps c.ranges.transmit_ps)

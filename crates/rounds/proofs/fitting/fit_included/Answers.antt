@@ -8,9 +8,6 @@ use Rattle.rounds.proofs.Gathering.{subset-fits}
 use Rattle.rounds.proofs.Points.{starts-few, held-is}
 use Rattle.rounds.proofs.fitting.fit_included.Goals as goal
 
-abbrev heard : goal.Start → Receptions
-heard s = receptions s.args.site.now s.args.z.now s.args.noise.now s.args.clock.now s.args.n s.args.altitude
-
 pub starts-points-requires : goal.starts-points-requires
 starts-points-requires c =
     (subset-fits c.args.site.now c.args.z.now c.args.n (has c.args.state.included)
@@ -18,13 +15,14 @@ starts-points-requires c =
 
 pub best_fit-requires : goal.best_fit-requires
 best_fit-requires c =
+    let R = receptions c.args.site.now c.args.z.now c.args.noise.now c.args.clock.now c.args.n c.args.altitude in
     let S = has c.args.state.included in
     let g = c.subset-chosen in
     let fits = subset-fits c.args.site.now c.args.z.now c.args.n S g.result g.ensures c.requires in record {
       n_bound = (
         c.requires,
         fits.0,
-        starts-few (heard c.before.before.before.before.before.before.before.before.before.before.before.before.before) S c.args.state.had c.args.state.previous g.result g.ensures
+        starts-few R S c.args.state.had c.args.state.previous g.result g.ensures
             c.starts-points.result c.starts-points.ensures,
       );
       by_index = fits.1;
@@ -32,7 +30,8 @@ best_fit-requires c =
 
 pub returns : goal.returns
 returns c =
+    let R = receptions c.args.site.now c.args.z.now c.args.noise.now c.args.clock.now c.args.n c.args.altitude in
     let g = c.subset-chosen in
-    c.best_fit.ensures ∙ held-is (heard c.before.before.before.before.before.before.before.before.before.before.before.before.before.before) (has c.args.state.included) c.args.state.had c.args.state.previous g.result
+    c.best_fit.ensures ∙ held-is R (has c.args.state.included) c.args.state.had c.args.state.previous g.result
     g.ensures c.starts-points.result
     c.starts-points.ensures

@@ -7,20 +7,17 @@ use Rattle.rounds.specs.Held.{beyond}
 use Rattle.rounds.proofs.Moments.{cast-nan, cast-up, cast-high, turned, cast-down, cast-low, far-later, far-earlier, by-cast}
 use Rattle.rounds.proofs.moment.transmit.Goals as goal
 
-same : (c : goal.Start) → to_z w64 (of_z w64 c.args.reference) ≡ c.args.reference
-same c = to_z-of_z w64 c.args.reference c.ranges.reference
-
 pub returns-then-ps : goal.returns-then-ps
 returns-then-ps c = by-cast c.args.reference (pos 0) c.args.t c.round-ps.result
     c.later.result c.round-ps.ensures (cast-nan c.round-ps.result c.if-ps.true)
-    (rw (same c.before.before.before) at c.later.ensures)
+    (rw (to_z-of_z w64 c.args.reference c.ranges.reference) at c.later.ensures)
 
 pub truncating_f64_to_u64-requires : goal.truncating_f64_to_u64-requires
 unfolding of_bits neg
 truncating_f64_to_u64-requires c = record {
-      lower_bound = subst T (sym c.if-ps-2.true) tt;
-      upper_bound = subst T (sym c.if-ps-3.true) tt;
-    }
+  lower_bound = subst T (sym c.if-ps-2.true) tt;
+  upper_bound = subst T (sym c.if-ps-3.true) tt;
+}
 
 pub returns-then-ps-3 : goal.returns-then-ps-3
 unfolding of_bits neg
@@ -29,7 +26,7 @@ returns-then-ps-3 c =
     by-cast c.args.reference (pos (to_unsigned 64 r)) c.args.t r c.later-then-ps-3.result
     c.round-ps.ensures
     (cast-up r c.if-ps-2.true c.if-ps-3.true)
-    (rw (same c.before.before.before.before.before.before, c.truncating_f64_to_u64.ensures) at c.later-then-ps-3.ensures)
+    (rw (to_z-of_z w64 c.args.reference c.ranges.reference, c.truncating_f64_to_u64.ensures) at c.later-then-ps-3.ensures)
 
 pub returns-then-ps-2 : goal.returns-then-ps-2
 unfolding of_bits neg
@@ -42,9 +39,9 @@ returns-then-ps-2 c =
 pub truncating_f64_to_u64-requires-then-back : goal.truncating_f64_to_u64-requires-then-back
 unfolding of_bits neg
 truncating_f64_to_u64-requires-then-back c = record {
-      lower_bound = turned _ c.if-ps.false c.if-ps-2.false;
-      upper_bound = subst T (sym c.if-back.true) tt;
-    }
+  lower_bound = turned _ c.if-ps.false c.if-ps-2.false;
+  upper_bound = subst T (sym c.if-back.true) tt;
+}
 
 pub returns-then-back : goal.returns-then-back
 unfolding of_bits neg
@@ -53,7 +50,7 @@ returns-then-back c =
     by-cast c.args.reference (neg_ℤ (pos (to_unsigned 64 (neg r)))) c.args.t r c.earlier.result
     c.round-ps.ensures
     (cast-down r c.if-ps.false c.if-ps-2.false c.if-back.true)
-    (rw (same c.before.before.before.before.before.before, c.truncating_f64_to_u64-then-back.ensures) at c.earlier.ensures)
+    (rw (to_z-of_z w64 c.args.reference c.ranges.reference, c.truncating_f64_to_u64-then-back.ensures) at c.earlier.ensures)
 
 pub returns : goal.returns
 unfolding of_bits neg

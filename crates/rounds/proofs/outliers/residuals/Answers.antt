@@ -27,11 +27,11 @@ loop-i-preserved c =
     let zeros = replicate 32 nought in
     let room : s.n ≤ 32 = c.requires in
     let far = ap (λ (y : List Float). nth y l.i) l.invariant.1
-    ∙ fill-at (range_at s.site.now s.t6) zeros s.n l.i room (omega arith) in
+    ∙ fill-at (range_at s.site.now s.params) zeros s.n l.i room (omega arith) in
     let spread = ap (λ (y : List Float). nth y l.i) l.invariant.2
     ∙ fill-at (sigma s.clock.now s.n s.noise.now) zeros s.n l.i room (omega arith) in
     let one = ap₂ (λ (r d : Float). r ⊘ d)
-    (c.abs.ensures ∙ ap (λ (v : Float). abs (nth s.z.now l.i ⊖ nth s.t6 3 ⊖ v)) far) spread in (
+    (c.abs.ensures ∙ ap (λ (v : Float). abs (nth s.z.now l.i ⊖ nth s.params 3 ⊖ v)) far) spread in (
       omega arith,
       l.invariant.1,
       l.invariant.2,

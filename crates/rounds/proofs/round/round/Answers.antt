@@ -17,9 +17,6 @@ use Rattle.rounds.specs.Held.{previous_of, step_of}
 use Rattle.rounds.proofs.Turns.{best-place, best-norm, round-few, round-unfit, round-fitted}
 use Rattle.rounds.proofs.round.round.Goals as goal
 
-abbrev heard : goal.Start → Receptions
-heard s = receptions s.args.site.now s.args.z.now s.args.noise.now s.args.clock.now s.args.n s.args.altitude
-
 -- a round that ends makes no change
 no_change : (why : Refusal) (m : ℕ) → Ends why ≡ Changes m → ⊥
 no_change why m q = let z : ◌≡◌ {A = ℕ} 0 1 = cc in omega arith
@@ -30,10 +27,11 @@ no-settling why q = let z : ◌≡◌ {A = ℕ} 0 1 = cc in omega arith
 
 pub returns-then-count-minimum : goal.returns-then-count-minimum
 returns-then-count-minimum c =
+    let R = receptions c.args.site.now c.args.z.now c.args.noise.now c.args.clock.now c.args.n c.args.altitude in
     let n = c.count-count in record {
       by_index = (
         λ reference. ap (λ (x : Step). step_of x.turn x.fit) c.ended.ensures
-            ∙ round-few (heard c.before.before.before.before) c.args.kept reference c.requires.0 c.args.state.included c.requires.1 (previous_of c.args.state)
+            ∙ round-few R c.args.kept reference c.requires.0 c.args.state.included c.requires.1 (previous_of c.args.state)
             n.result
             n.ensures (rw c.minimum.ensures at c.if-count-minimum.true),
         λ m q. absurd (no_change _ m (ap (λ (x : Step). x.turn) (sym c.ended.ensures) ∙ q)),
@@ -43,12 +41,13 @@ returns-then-count-minimum c =
 
 pub returns-then-best : goal.returns-then-best
 returns-then-best c =
+    let R = receptions c.args.site.now c.args.z.now c.args.noise.now c.args.clock.now c.args.n c.args.altitude in
     let n = c.count-count in
     let at = c.fit_included-at in
     let left = c.residuals-left in
     let S = has c.args.state.included in record {
       by_index = (
-        λ reference. round-fitted (heard c.before.before.before.before.before.before.before.before.before.before.before.before) c.args.kept reference c.requires.0 c.args.state.included c.requires.1 (previous_of c.args.state)
+        λ reference. round-fitted R c.args.kept reference c.requires.0 c.args.state.included c.requires.1 (previous_of c.args.state)
             n.result n.ensures (rw c.minimum.ensures at
             c.if-count-minimum.false) at.result.best
             (ap (λ (x : BestAt). x.best) at.ensures) c.if-best.true left.result
@@ -58,20 +57,21 @@ returns-then-best c =
         c.decided-turn.ensures.1,
       );
       place_value = λ q. (
-        best-place (chosen_over (heard c.before.before.before.before.before.before.before.before.before.before.before.before) S (array_of (whitener_over (heard c.before.before.before.before.before.before.before.before.before.before.before.before) S))) (best_fit_over (heard c.before.before.before.before.before.before.before.before.before.before.before.before) S (previous_of c.args.state)) at.result
+        best-place (chosen_over R S (array_of (whitener_over R S))) (best_fit_over R S (previous_of c.args.state)) at.result
             at.ensures c.if-best.true,
-        best-norm (heard c.before.before.before.before.before.before.before.before.before.before.before.before) S (previous_of c.args.state) c.requires.0 at.result at.ensures
+        best-norm R S (previous_of c.args.state) c.requires.0 at.result at.ensures
             c.if-best.true,
       );
     }
 
 pub returns : goal.returns
 returns c =
+    let R = receptions c.args.site.now c.args.z.now c.args.noise.now c.args.clock.now c.args.n c.args.altitude in
     let n = c.count-count in
     let at = c.fit_included-at in record {
       by_index = (
         λ reference. ap (λ (x : Step). step_of x.turn x.fit) c.ended-2.ensures ∙ ap ends c.of_unfit.ensures
-            ∙ round-unfit (heard c.before.before.before.before.before.before.before.before) c.args.kept reference c.requires.0 c.args.state.included c.requires.1 (previous_of c.args.state)
+            ∙ round-unfit R c.args.kept reference c.requires.0 c.args.state.included c.requires.1 (previous_of c.args.state)
             n.result
             n.ensures (rw c.minimum.ensures at
             c.if-count-minimum.false) at.result.best (ap (λ (x : BestAt). x.best) at.ensures)

@@ -25,6 +25,6 @@ pub returns : goal.returns
 returns c R n m a norm =
     let degrees = c.dof-dof in
     let limit = c.published_chi2_limit in
-    (rw (to_z-of_z w64 c.args.reference_ps c.ranges.reference-ps) at c.finish.ensures)
+    (rw (to_z-of_z w64 c.args.reference_ps c.ranges.reference_ps) at c.finish.ensures)
     ∙ ap as_finished (late-finish R c.args.reference_ps c.args.included m n c.args.fit c.args.norm norm
     degrees.result (degrees.ensures ∙ ap (free c.args.included) a) limit.result limit.ensures c.if-fit-published_chi2_limit.false)

@@ -1,22 +1,31 @@
 -- `starts::bancroft::all_finite` meets its contract: each return is one outcome of the four tests, in the order of the definition. Assumes nothing.
-use Rattle.std.proofs.Common.{◌≡◌, ◌&&◌, rules}
-use Rattle.binary64.specs.Steps.{is_finite}
-use Rattle.dense.specs.Entries.{nth}
 use Rattle.starts.specs.Bancroft.{all_finite}
 use Rattle.starts.proofs.bancroft.all_finite.Goals as goal
 
--- the first two passed, and the third was tested
-third : (c : goal.After-is_finite-then-is_finite-2) → all_finite c.args.t1 ≡ c.is_finite-then-is_finite-2.result
-    && is_finite (nth c.args.t1 3)
-unfolding all_finite
-third c =
-    rw (← c.is_finite.ensures, c.if-is_finite.true, ← c.is_finite-then-is_finite.ensures, c.if-is_finite-2.true, ← c.is_finite-then-is_finite-2.ensures)
-
 pub returns-then-is_finite-3 : goal.returns-then-is_finite-3
-returns-then-is_finite-3 c = rw (third c.before.before, c.if-is_finite-3.true, c.is_finite-then-is_finite-3.ensures)
+unfolding all_finite
+returns-then-is_finite-3 c =
+    rw (
+      c.is_finite-then-is_finite-3.ensures,
+      ← c.is_finite.ensures,
+      c.if-is_finite.true,
+      ← c.is_finite-then-is_finite.ensures,
+      c.if-is_finite-2.true,
+      ← c.is_finite-then-is_finite-2.ensures,
+      c.if-is_finite-3.true,
+    )
 
 pub returns-else-is_finite-3 : goal.returns-else-is_finite-3
-returns-else-is_finite-3 c = rw (third c.before, c.if-is_finite-3.false)
+unfolding all_finite
+returns-else-is_finite-3 c =
+    rw (
+      ← c.is_finite.ensures,
+      c.if-is_finite.true,
+      ← c.is_finite-then-is_finite.ensures,
+      c.if-is_finite-2.true,
+      ← c.is_finite-then-is_finite-2.ensures,
+      c.if-is_finite-3.false,
+    )
 
 pub returns-else-is_finite-2 : goal.returns-else-is_finite-2
 unfolding all_finite

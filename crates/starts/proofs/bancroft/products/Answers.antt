@@ -1,5 +1,5 @@
 -- `starts::bancroft::products` meets its contract: the invariant: the products of the first i rows are in. Assumes nothing.
-use Rattle.std.proofs.Common.{◌≡◌, ◌-◌, ◌≤◌, refl, add-one, arith, rules}
+use Rattle.std.proofs.Common.{◌≡◌, refl, add-one, arith, rules}
 use Rattle.starts.specs.Bancroft.{products_to}
 use Rattle.starts.proofs.bancroft.products.Goals as goal
 

@@ -1,5 +1,4 @@
 -- `starts::bancroft::pseudo` meets its contract: `solve` ensures the solution, and the last component turns its sign. Assumes nothing.
-use Rattle.std.proofs.Common.{rules}
 use Rattle.starts.specs.Bancroft.{pseudo}
 use Rattle.starts.proofs.bancroft.pseudo.Goals as goal
 

@@ -1,5 +1,4 @@
 -- `starts::bancroft::rhs` meets its contract: the flag decides, as in the definition. Assumes nothing.
-use Rattle.std.proofs.Common.{rules}
 use Rattle.starts.proofs.bancroft.rhs.Goals as goal
 
 pub returns-then-alpha : goal.returns-then-alpha

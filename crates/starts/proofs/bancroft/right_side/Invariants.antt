@@ -1,5 +1,5 @@
 -- `starts::bancroft::right_side` meets its contract: the invariant: the first i rows are in. Assumes nothing.
-use Rattle.std.proofs.Common.{◌≡◌, ◌-◌, ◌≤◌, refl, add-one, arith, rules}
+use Rattle.std.proofs.Common.{◌≡◌, ◌-◌, ◌≤◌}
 use Rattle.starts.specs.Bancroft.{rhs_to}
 use Rattle.starts.proofs.bancroft.right_side.Given as goal
 

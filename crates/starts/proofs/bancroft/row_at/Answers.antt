@@ -1,5 +1,4 @@
 -- `starts::bancroft::row_at` meets its contract: each callee ensures its part. Assumes nothing.
-use Rattle.std.proofs.Common.{rules}
 use Rattle.starts.specs.Bancroft.{row_at}
 use Rattle.starts.proofs.bancroft.row_at.Goals as goal
 

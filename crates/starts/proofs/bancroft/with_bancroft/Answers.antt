@@ -1,5 +1,4 @@
 -- `starts::bancroft::with_bancroft` meets its contract: where a pivot is refused there is no root. Assumes nothing.
-use Rattle.std.proofs.Common.{rules}
 use Rattle.starts.specs.Held.{packed}
 use Rattle.starts.specs.Bancroft.{bancroft}
 use Rattle.starts.proofs.bancroft.with_bancroft.Goals as goal

@@ -1,5 +1,4 @@
 -- `starts::bancroft::with_crossed` meets its contract: the coefficients are those of the definition. Assumes nothing.
-use Rattle.std.proofs.Common.{rules}
 use Rattle.starts.specs.Bancroft.{crossed}
 use Rattle.starts.proofs.bancroft.with_crossed.Goals as goal
 

@@ -1,5 +1,4 @@
 -- `starts::bancroft::with_place` meets its contract: what is not finite is left out. Assumes nothing.
-use Rattle.std.proofs.Common.{rules}
 use Rattle.starts.specs.Held.{packed}
 use Rattle.starts.specs.Bancroft.{places}
 use Rattle.starts.proofs.bancroft.with_place.Goals as goal

@@ -1,6 +1,6 @@
 -- `starts::bancroft::with_places` meets its contract: each return is one case of `lambdas`: no root, one or two (`no-place`, `two-places`). Assumes
 -- nothing.
-use Rattle.std.proofs.Common.{◌∙◌, rules}
+use Rattle.std.proofs.Common.{◌∙◌}
 use Rattle.starts.specs.Bancroft.{lambdas}
 use Rattle.starts.proofs.Constants.{tiny, four}
 use Rattle.starts.proofs.Packed.{no-place, two-places}

@@ -1,5 +1,5 @@
 -- `starts::lifted::centroid` meets its contract: the invariant: the sum is that of the first i sites, each times w. Assumes nothing.
-use Rattle.std.proofs.Common.{◌≡◌, ◌-◌, ◌≤◌, refl, add-one, arith, rules}
+use Rattle.std.proofs.Common.{◌≡◌, refl, add-one, arith, rules}
 use Rattle.starts.specs.Lifted.{centroid_to, centroid}
 use Rattle.starts.proofs.lifted.centroid.Goals as goal
 

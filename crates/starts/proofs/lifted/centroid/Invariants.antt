@@ -1,6 +1,6 @@
 -- `starts::lifted::centroid` meets its contract: the invariant: the sum is that of the first i sites, each times w. Assumes nothing.
-use Rattle.std.proofs.Common.{◌≡◌, ◌-◌, ◌≤◌, refl, add-one, arith, rules}
-use Rattle.starts.specs.Lifted.{centroid_to, centroid}
+use Rattle.std.proofs.Common.{◌≡◌, ◌-◌, ◌≤◌}
+use Rattle.starts.specs.Lifted.{centroid_to}
 use Rattle.starts.proofs.lifted.centroid.Given as goal
 
 abbrev pub invariant-loop-i : goal.invariant-loop-i

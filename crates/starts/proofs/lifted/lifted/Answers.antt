@@ -1,5 +1,4 @@
 -- `starts::lifted::lifted` meets its contract: the place is `to_ecef`'s, and its time `timed`'s. Assumes nothing.
-use Rattle.std.proofs.Common.{rules}
 use Rattle.starts.specs.Lifted.{lifted}
 use Rattle.starts.proofs.lifted.lifted.Goals as goal
 

@@ -1,5 +1,4 @@
 -- `starts::lifted::ring_place` meets its contract: each callee ensures its part. Assumes nothing.
-use Rattle.std.proofs.Common.{rules}
 use Rattle.starts.specs.Lifted.{ring_place}
 use Rattle.starts.proofs.lifted.ring_place.Goals as goal
 

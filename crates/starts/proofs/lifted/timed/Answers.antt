@@ -1,6 +1,6 @@
 -- `starts::lifted::timed` meets its contract: the invariant: the sum is that of the first i times, from the ranges that stand below k (`fill-at`).
 -- Assumes nothing.
-use Rattle.std.proofs.Common.{◌≡◌, ◌-◌, ◌≤◌, List, replicate, refl, ap, ◌∙◌, ap₂, add-one, arith, rules}
+use Rattle.std.proofs.Common.{◌≡◌, List, replicate, refl, ap, ◌∙◌, ap₂, add-one, arith, rules}
 use lib.Ieee.{Float}
 use Rattle.binary64.specs.Steps.{◌⊕◌, ◌⊖◌, nought}
 use Rattle.dense.specs.Entries.{nth}
@@ -21,8 +21,8 @@ unfolding sent_to
 loop-i-preserved c =
     let l = c.loop-i in
     let s = c.args in
-    let f = range s.sites.now s.t4 in
-    let far : nth c.ranges_of.new.1.1.1.1.0 l.i ≡ f l.i =
+    let f = range s.sites.now s.x in
+    let far : nth c.ranges_of.new.ranges l.i ≡ f l.i =
     ap (λ (y : List Float). nth y l.i) c.ranges_of.ensures.ranges_after
     ∙ fill-at f (replicate 32 nought) s.k l.i (omega (arith, c.requires)) (omega arith) in
     (omega arith, rw add-one (ap₂ (λ (sum v : Float). sum ⊕ (nth s.z.now l.i ⊖ v)) l.invariant.1 far))

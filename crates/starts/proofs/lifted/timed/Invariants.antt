@@ -1,12 +1,7 @@
 -- `starts::lifted::timed` meets its contract: the invariant: the sum is that of the first i times, from the ranges that stand below k (`fill-at`).
 -- Assumes nothing.
-use Rattle.std.proofs.Common.{◌≡◌, ◌-◌, ◌≤◌, List, replicate, refl, ap, ◌∙◌, ap₂, add-one, arith, rules}
-use lib.Ieee.{Float}
-use Rattle.binary64.specs.Steps.{◌⊕◌, ◌⊖◌, nought}
-use Rattle.dense.specs.Entries.{nth}
-use Rattle.problem.specs.Problem.{range}
-use Rattle.whitening.proofs.Costs.{fill-at}
-use Rattle.starts.specs.Lifted.{sent_to, timed}
+use Rattle.std.proofs.Common.{◌≡◌, ◌-◌, ◌≤◌}
+use Rattle.starts.specs.Lifted.{sent_to}
 use Rattle.starts.proofs.lifted.timed.Given as goal
 
 abbrev pub invariant-loop-i : goal.invariant-loop-i

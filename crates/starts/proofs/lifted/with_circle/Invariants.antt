@@ -1,9 +1,8 @@
 -- `starts::lifted::with_circle` meets its contract: the invariant: the starts of the first `step` bearings are packed (`circle-more`). Assumes
 -- nothing.
-use Rattle.std.proofs.Common.{◌≡◌, ◌-◌, ◌≤◌, refl, add-one, arith, rules}
+use Rattle.std.proofs.Common.{◌≡◌, ◌-◌, ◌≤◌}
 use Rattle.starts.specs.Held.{packed}
 use Rattle.starts.specs.Lifted.{circle_to}
-use Rattle.starts.proofs.Packed.{circle-more}
 use Rattle.starts.proofs.lifted.with_circle.Given as goal
 
 abbrev pub invariant-loop-step : goal.invariant-loop-step

@@ -1,5 +1,5 @@
 -- `starts::lifted::with_ring` meets its contract: two circles, one behind the other (`packed-append`). Assumes nothing.
-use Rattle.std.proofs.Common.{sym, ◌∙◌, rules}
+use Rattle.std.proofs.Common.{sym, ◌∙◌}
 use Rattle.starts.specs.Lifted.{ring}
 use Rattle.starts.proofs.Constants.{near-radius, far-radius}
 use Rattle.starts.proofs.Packed.{packed-append}

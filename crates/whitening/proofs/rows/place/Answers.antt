@@ -1,5 +1,4 @@
 -- `whitening::rows::place` meets its contract. By the kinds of altitude. Assumes nothing.
-use borrow.Author.Rules.{rules}
 use Rattle.whitening.proofs.rows.place.Goals as goal
 
 pub returns-in-None : goal.returns-in-None

@@ -1,12 +1,10 @@
 -- `whitening::rows::ranges_of` meets its contract. The invariant: the entries below i are squares of ranges. Their roots are the ranges
 -- (`roots-fill`). The measure is what is left of k. Assumes nothing.
-use borrow.Author.Rules.{rules}
-use mathlib.Core.Path.{◌≡◌, ◌∙◌}
-use Prim.Native.Nat.{◌≤◌, ◌<◌, ◌-◌}
-use native.Mathlib.Omega.{arith}
-use lib.ListN.{length, length-set}
+use mathlib.Core.Path.{◌≡◌}
+use Prim.Native.Nat.{◌≤◌, ◌-◌}
+use lib.ListN.{length}
 use Rattle.problem.specs.Problem.{range}
-use Rattle.whitening.proofs.Ranges.{Squared, one_more, roots-fill}
+use Rattle.whitening.proofs.Ranges.{Squared}
 use Rattle.whitening.proofs.rows.ranges_of.Given as goal
 
 abbrev pub invariant-loop-i : goal.invariant-loop-i

@@ -1,5 +1,4 @@
 -- `whitening::rows::row_place` meets its contract. By the kinds of altitude. Assumes nothing.
-use borrow.Author.Rules.{rules}
 use Rattle.whitening.proofs.rows.row_place.Goals as goal
 
 pub returns-in-None : goal.returns-in-None

@@ -1,6 +1,5 @@
 -- `whitening::rows::squared_range` meets its contract. The promises of `site`, `sub` and `dot`, put together: a range is the root of what `dot`
 -- gives. Assumes nothing.
-use borrow.Author.Rules.{rules}
 use Rattle.whitening.proofs.rows.squared_range.Goals as goal
 
 pub returns : goal.returns

@@ -1,7 +1,5 @@
 -- `whitening::rows::squares` meets its contract. The invariant: the sum holds the squares below i. The measure is what is left of k. Assumes nothing.
-use borrow.Author.Rules.{rules}
 use mathlib.Core.Path.{◌≡◌, refl}
-use Prim.Native.Nat.{◌≤◌, ◌-◌}
 use native.Mathlib.Numerals.{add-one}
 use native.Mathlib.Omega.{arith}
 use Rattle.whitening.specs.Held.{cost_to}

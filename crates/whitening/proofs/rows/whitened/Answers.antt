@@ -8,15 +8,13 @@ use Rattle.whitening.proofs.Joined.{residuals-over, whitened-joined}
 use Rattle.whitening.proofs.rows.whitened.Goals as goal
 
 pub residuals-part-requires : goal.residuals-part-requires
-residuals-part-requires c = let pre = (c.requires.k_bound, c.requires.r_value) in
-    (pre.0.0, ap length pre.1.0, refl, refl)
+residuals-part-requires c = (c.requires.k_bound.0, ap length c.requires.r_value.0, refl, refl)
 
 pub push_height-cost-requires : goal.push_height-cost-requires
 push_height-cost-requires c = (c.requires.k_bound.0, omega arith, c.residuals-part.ensures.value)
 
 pub slopes-requires : goal.slopes-requires
-slopes-requires c = let pre = (c.requires.k_bound, c.requires.r_value) in
-    (pre.0.0, c.residuals-part.ensures.ranges_len.1, pre.0.1)
+slopes-requires c = (c.requires.k_bound.0, c.residuals-part.ensures.ranges_len.1, c.requires.k_bound.1)
 
 pub returns : goal.returns
 returns c =
@@ -24,7 +22,7 @@ returns c =
     let first = residuals-over P c.args.p _ c.requires.k_bound.1 c.args.r.now
     c.residuals-part.ensures.r_len.1
     c.push_height-cost.ensures.r_after in
-    let last = (c.slopes.ensures.upper_bound, c.slopes.ensures.d_after) in record {
-      upper_bound = last.0;
-      d_after = whitened-joined P c.args.p _ c.requires.r_value first (last.1 c.args.z.now _);
+    let last = c.slopes.ensures in record {
+      upper_bound = last.upper_bound;
+      d_after = whitened-joined P c.args.p _ c.requires.r_value first (last.d_after c.args.z.now _);
     }

@@ -1,8 +1,7 @@
 -- `whitening::slopes::forward4` meets its contract. The invariant: each array is solved in its rows below i, and the others hold what they brought
 -- (`forward-row`). The measure is what is left of n. Assumes nothing.
-use borrow.Author.Rules.{rules}
 use mathlib.Core.Path.{◌≡◌, refl, ◌∙◌}
-use Prim.Native.Nat.{◌≤◌, ◌<◌, ◌+◌, ◌*◌, ◌-◌}
+use Prim.Native.Nat.{ℕ, ◌≤◌, ◌<◌, ◌+◌, ◌*◌}
 use native.Mathlib.Omega.{arith}
 use Rattle.dense.specs.Solve.{forward_to}
 use Rattle.dense.proofs.Places.{place, room}
@@ -10,38 +9,35 @@ use Rattle.whitening.proofs.Turns.{forward-row}
 use Rattle.whitening.proofs.slopes.forward4.Goals as goal
 
 -- the diagonal entry of a turn lies in the factor
-inside : (c : goal.In-loop-i) → c.loop-i.i * c.args.n + c.loop-i.i < 1024
-inside c =
-    let i = c.loop-i.i in
-    let n = c.args.n in
-    omega (arith, place i i n (omega arith) (omega arith), room n (omega arith))
+inside : (i n : ℕ) → i < n → n ≤ 32 → i * n + i < 1024
+inside i n h g = omega (arith, place i i n (omega arith) (omega arith), room n (omega arith))
 
 pub loop-i-init : goal.loop-i-init
 unfolding forward_to
 loop-i-init c = (omega arith, refl, refl, refl, refl)
 
 pub overflow_mul-root : goal.overflow_mul-root
-overflow_mul-root c = omega (arith, inside c.before.before.before.before.before.before.before)
+overflow_mul-root c = omega (arith, inside c.loop-i.i c.args.n (omega arith) (omega arith))
 
 pub overflow_add-root : goal.overflow_add-root
-overflow_add-root c = omega (arith, inside c.before.before.before.before.before.before.before)
+overflow_add-root c = omega (arith, inside c.loop-i.i c.args.n (omega arith) (omega arith))
 
 pub offset_bounds-l-i : goal.offset_bounds-l-i
-offset_bounds-l-i c = omega (arith, inside c.before.before.before.before.before.before.before)
+offset_bounds-l-i c = omega (arith, inside c.loop-i.i c.args.n (omega arith) (omega arith))
 
 pub bounds-l-i : goal.bounds-l-i
-bounds-l-i c = omega (arith, inside c.before.before.before.before.before.before.before)
+bounds-l-i c = omega (arith, inside c.loop-i.i c.args.n (omega arith) (omega arith))
 
 pub loop-i-preserved : goal.loop-i-preserved
 loop-i-preserved c =
     let v = c.loop-i.invariant in
-    let w = (c.minus_dots4-w.ensures.result_value, (c.minus_dots4-w.ensures.result_value_2, (c.minus_dots4-w.ensures.result_value_3, c.minus_dots4-w.ensures.result_value_4))) in
-    let put = (c.put_slopes.ensures.a_after, (c.put_slopes.ensures.b_after, (c.put_slopes.ensures.c_after, c.put_slopes.ensures.d_after))) in (
+    let w = c.minus_dots4-w.ensures in
+    let put = c.put_slopes.ensures in (
       omega arith,
-      put.0 ∙ forward-row _ _ _ _ _ _ v.1 w.0,
-      put.1.0 ∙ forward-row _ _ _ _ _ _ v.2 w.1.0,
-      put.1.1.0 ∙ forward-row _ _ _ _ _ _ v.3 w.1.1.0,
-      put.1.1.1 ∙ forward-row _ _ _ _ _ _ v.4 w.1.1.1,
+      put.a_after ∙ forward-row _ _ _ _ _ _ v.1 w.result_value,
+      put.b_after ∙ forward-row _ _ _ _ _ _ v.2 w.result_value_2,
+      put.c_after ∙ forward-row _ _ _ _ _ _ v.3 w.result_value_3,
+      put.d_after ∙ forward-row _ _ _ _ _ _ v.4 w.result_value_4,
     )
 
 pub returns : goal.returns

@@ -1,12 +1,8 @@
 -- `whitening::slopes::forward4` meets its contract. The invariant: each array is solved in its rows below i, and the others hold what they brought
 -- (`forward-row`). The measure is what is left of n. Assumes nothing.
-use borrow.Author.Rules.{rules}
-use mathlib.Core.Path.{◌≡◌, refl, ◌∙◌}
-use Prim.Native.Nat.{◌≤◌, ◌<◌, ◌+◌, ◌*◌, ◌-◌}
-use native.Mathlib.Omega.{arith}
+use mathlib.Core.Path.{◌≡◌}
+use Prim.Native.Nat.{◌≤◌, ◌-◌}
 use Rattle.dense.specs.Solve.{forward_to}
-use Rattle.dense.proofs.Places.{place, room}
-use Rattle.whitening.proofs.Turns.{forward-row}
 use Rattle.whitening.proofs.slopes.forward4.Given as goal
 
 abbrev pub invariant-loop-i : goal.invariant-loop-i

@@ -1,12 +1,8 @@
 -- `whitening::slopes::minus_dots4` meets its contract. The invariant: each sum has its first k products taken off. The measure is what is left of i.
 -- Assumes nothing.
-use borrow.Author.Rules.{rules}
-use mathlib.Core.Path.{◌≡◌, refl}
-use Prim.Native.Nat.{◌≤◌, ◌<◌, ◌+◌, ◌*◌, ◌-◌}
-use native.Mathlib.Numerals.{add-one}
-use native.Mathlib.Omega.{arith}
+use mathlib.Core.Path.{◌≡◌}
+use Prim.Native.Nat.{◌≤◌, ◌-◌}
 use Rattle.dense.specs.Entries.{nth, at, minus_dots}
-use Rattle.dense.proofs.Places.{place, room}
 use Rattle.whitening.proofs.slopes.minus_dots4.Given as goal
 
 abbrev pub invariant-loop-k : goal.invariant-loop-k

@@ -1,15 +1,14 @@
 -- `whitening::slopes::push_up` meets its contract. By the kinds of altitude: the promises of `up_row` and `put_slopes` (`barometric-up`, `gnss-up`).
 -- Assumes nothing.
-use borrow.Author.Rules.{rules}
 use native.Mathlib.Omega.{arith}
 use Rattle.whitening.proofs.Joined.{barometric-up, gnss-up}
 use Rattle.whitening.proofs.slopes.push_up.Goals as goal
 
 pub returns-in-None : goal.returns-in-None
 returns-in-None c = record {
-      upper_bound = omega arith;
-      d_after = λ r. rw c.in-None.is;
-    }
+  upper_bound = omega arith;
+  d_after = λ r. rw c.in-None.is;
+}
 
 pub returns-in-Barometric : goal.returns-in-Barometric
 returns-in-Barometric c =

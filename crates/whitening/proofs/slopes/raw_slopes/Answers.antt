@@ -1,13 +1,9 @@
 -- `whitening::slopes::raw_slopes` meets its contract. The invariant: each array is filled below i. The range of a turn is the one lent. The
 -- measure is what is left of k. Assumes nothing.
-use borrow.Author.Rules.{rules}
 use mathlib.Core.Path.{◌≡◌, refl}
-use Prim.Native.Nat.{◌≤◌, ◌-◌}
 use native.Mathlib.Numerals.{add-one}
 use native.Mathlib.Omega.{arith}
-use lib.Ieee.{neg}
-use Rattle.binary64.specs.Steps.{one}
-use Rattle.whitening.specs.Whitened.{slope_at, fill_to}
+use Rattle.whitening.specs.Whitened.{fill_to}
 use Rattle.whitening.proofs.slopes.raw_slopes.Goals as goal
 
 pub loop-i-init : goal.loop-i-init
@@ -22,12 +18,12 @@ unfolding fill_to
 loop-i-preserved c =
     let v = c.loop-i.invariant in
     let row = c.slope_row-row.ensures in
-    let put = (c.put_slopes.ensures.a_after, (c.put_slopes.ensures.b_after, (c.put_slopes.ensures.c_after, c.put_slopes.ensures.d_after))) in (
+    let put = c.put_slopes.ensures in (
       omega arith,
-      rw (add-one, ← v.1, put.0, row),
-      rw (add-one, ← v.2, put.1.0, row),
-      rw (add-one, ← v.3, put.1.1.0, row),
-      rw (add-one, ← v.4, put.1.1.1, row),
+      rw (add-one, ← v.1, put.a_after, row),
+      rw (add-one, ← v.2, put.b_after, row),
+      rw (add-one, ← v.3, put.c_after, row),
+      rw (add-one, ← v.4, put.d_after, row),
     )
 
 pub returns : goal.returns

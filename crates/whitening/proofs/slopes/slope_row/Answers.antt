@@ -1,5 +1,4 @@
 -- `whitening::slopes::slope_row` meets its contract. The promises of `site` and `sub`, put together. Assumes nothing.
-use borrow.Author.Rules.{rules}
 use Rattle.whitening.proofs.slopes.slope_row.Goals as goal
 
 pub returns : goal.returns

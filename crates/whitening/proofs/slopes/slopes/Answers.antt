@@ -1,5 +1,4 @@
 -- `whitening::slopes::slopes` meets its contract. The promises of `raw_slopes`, `forward4` and `push_up`, joined (`slopes-joined`). Assumes nothing.
-use borrow.Author.Rules.{rules}
 use Rattle.whitening.specs.Held.{chosen}
 use Rattle.whitening.proofs.Joined.{slopes-joined}
 use Rattle.whitening.proofs.slopes.slopes.Goals as goal
@@ -11,10 +10,10 @@ pub returns : goal.returns
 returns c =
     let at = c.args in
     let pre = c.requires in
-    let last = (c.push_up.ensures.upper_bound, c.push_up.ensures.d_after) in record {
-      upper_bound = last.0;
+    let last = c.push_up.ensures in record {
+      upper_bound = last.upper_bound;
       d_after = λ z. slopes-joined (chosen at.k at.sites.now z at.l.now at.altitude) at.p at.geodetic pre.2 _
           at.a.now at.b.now at.c.now at.d.now
           (c.raw_slopes.ensures.a_after, (c.raw_slopes.ensures.b_after, (c.raw_slopes.ensures.c_after, c.raw_slopes.ensures.d_after)))
-          (c.forward4.ensures.a_after, (c.forward4.ensures.b_after, (c.forward4.ensures.c_after, c.forward4.ensures.d_after))) last.1;
+          (c.forward4.ensures.a_after, (c.forward4.ensures.b_after, (c.forward4.ensures.c_after, c.forward4.ensures.d_after))) last.d_after;
     }

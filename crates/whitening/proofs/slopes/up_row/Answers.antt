@@ -1,5 +1,4 @@
 -- `whitening::slopes::up_row` meets its contract. By the promise of `enu_basis`. Assumes nothing.
-use borrow.Author.Rules.{rules}
 use Rattle.whitening.specs.Whitened.{up_row}
 use Rattle.whitening.proofs.slopes.up_row.Goals as goal
 

@@ -1,6 +1,5 @@
 -- `whitening::sums::completed` meets its contract. The promises of `slopes` and `normal`, put together (`slopes-beside`). The
 -- arrays keep their room (`slopes-room`). Assumes nothing.
-use borrow.Author.Rules.{rules}
 use mathlib.Core.List.{List, []}
 use lib.Ieee.{Float}
 use Rattle.whitening.specs.Whitened.{Chosen, rows, no_rows}

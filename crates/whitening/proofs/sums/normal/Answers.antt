@@ -1,10 +1,7 @@
 -- `whitening::sums::normal` meets its contract. The invariant: the sums hold the first i rows. The measure is what is left of `count`. Assumes
 -- nothing.
-use borrow.Author.Rules.{rules}
 use mathlib.Core.Path.{◌≡◌, refl}
-use Prim.Native.Nat.{◌≤◌, ◌-◌}
 use native.Mathlib.Omega.{arith}
-use Rattle.whitening.specs.Whitened.{rows}
 use Rattle.whitening.specs.Normal.{normal_to}
 use Rattle.whitening.proofs.Turns.{normal-row}
 use Rattle.whitening.proofs.sums.normal.Goals as goal

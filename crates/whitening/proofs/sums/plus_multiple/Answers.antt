@@ -1,5 +1,4 @@
 -- `whitening::sums::plus_multiple` meets its contract. By its definition. Assumes nothing.
-use borrow.Author.Rules.{rules}
 use mathlib.Core.Path.{refl}
 use Rattle.whitening.specs.Normal.{plus_multiple}
 use Rattle.whitening.proofs.sums.plus_multiple.Goals as goal

@@ -1,5 +1,4 @@
 -- `whitening::sums::plus_products` meets its contract. By its definition. Assumes nothing.
-use borrow.Author.Rules.{rules}
 use mathlib.Core.Path.{refl}
 use Rattle.whitening.specs.Normal.{plus_products}
 use Rattle.whitening.proofs.sums.plus_products.Goals as goal

@@ -1,12 +1,9 @@
 -- `whitening::timing::covariance` meets its contract. The invariant: the matrix keeps its size k, and the rows and columns below a are stored. The
 -- measure is what is left of k. Assumes nothing.
-use borrow.Author.Rules.{rules}
 use mathlib.Core.Path.{◌≡◌, ap, ap₂}
-use Prim.Native.Nat.{◌≤◌, ◌-◌}
 use native.Mathlib.Numerals.{add-one}
 use native.Mathlib.Omega.{arith}
 use Rattle.linalg.specs.Held.{matrix}
-use Rattle.linalg.specs.Methods.{zeros}
 use Rattle.linalg.specs.declared.matrix.Matrix.{Matrix}
 use Rattle.whitening.specs.Covariance.{covariance_to}
 use Rattle.whitening.proofs.timing.covariance.Goals as goal
@@ -19,9 +16,9 @@ loop-a-init c =
 
 pub covariance_row-requires : goal.covariance_row-requires
 covariance_row-requires c = record {
-      n_bound = (omega arith, omega arith, omega arith);
-      by_index = c.requires.by_index;
-    }
+  n_bound = (omega arith, omega arith, omega arith);
+  by_index = c.requires.by_index;
+}
 
 pub loop-a-preserved : goal.loop-a-preserved
 unfolding covariance_to

@@ -1,10 +1,8 @@
 -- `whitening::timing::covariance_row` meets its contract. The invariant: the places of a and each b' from a to below b hold their values. The measure
 -- is what is left of k. Assumes nothing.
-use borrow.Author.Rules.{rules}
 use mathlib.Core.Path.{◌≡◌}
-use Prim.Native.Nat.{ℕ, suc, ◌≤◌, ◌<◌, ◌+◌, ◌*◌, ◌-◌}
+use Prim.Native.Nat.{suc, ◌+◌, ◌-◌}
 use native.Mathlib.Omega.{arith}
-use Rattle.dense.proofs.Places.{place, room}
 use Rattle.whitening.specs.Covariance.{covariance_row_to}
 use Rattle.whitening.proofs.timing.covariance_row.Goals as goal
 

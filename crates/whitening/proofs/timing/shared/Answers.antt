@@ -1,5 +1,4 @@
 -- `whitening::timing::shared` meets its contract. By whether a is b. Assumes nothing.
-use borrow.Author.Rules.{rules}
 use native.Mathlib.Omega.{arith}
 use borrow.Author.Tests.{eq-eqb, ne_eqb}
 use Rattle.dense.proofs.Places.{room}

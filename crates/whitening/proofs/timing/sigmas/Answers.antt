@@ -1,13 +1,12 @@
 -- `whitening::timing::sigmas` meets its contract. The invariant: the entries below i are variances. Their roots are the standard deviations
 -- (`roots-fill`). The measure is what is left of n. Assumes nothing.
-use borrow.Author.Rules.{rules}
 use mathlib.Core.Path.{◌≡◌, ◌∙◌}
-use Prim.Native.Nat.{◌≤◌, ◌<◌, ◌-◌}
+use Prim.Native.Nat.{◌<◌}
 use native.Mathlib.Omega.{arith}
 use lib.ListN.{length, length-set, replicate}
 use Rattle.binary64.specs.Steps.{nought}
 use Rattle.whitening.specs.Covariance.{sigma}
-use Rattle.whitening.proofs.Ranges.{Squared, one_more, roots-fill}
+use Rattle.whitening.proofs.Ranges.{one_more, roots-fill}
 use Rattle.whitening.proofs.timing.sigmas.Goals as goal
 
 pub loop-i-init : goal.loop-i-init

@@ -1,13 +1,10 @@
 -- `whitening::timing::sigmas` meets its contract. The invariant: the entries below i are variances. Their roots are the standard deviations
 -- (`roots-fill`). The measure is what is left of n. Assumes nothing.
-use borrow.Author.Rules.{rules}
-use mathlib.Core.Path.{◌≡◌, ◌∙◌}
-use Prim.Native.Nat.{◌≤◌, ◌<◌, ◌-◌}
-use native.Mathlib.Omega.{arith}
-use lib.ListN.{length, length-set, replicate}
-use Rattle.binary64.specs.Steps.{nought}
+use mathlib.Core.Path.{◌≡◌}
+use Prim.Native.Nat.{◌≤◌, ◌-◌}
+use lib.ListN.{length}
 use Rattle.whitening.specs.Covariance.{sigma}
-use Rattle.whitening.proofs.Ranges.{Squared, one_more, roots-fill}
+use Rattle.whitening.proofs.Ranges.{Squared}
 use Rattle.whitening.proofs.timing.sigmas.Given as goal
 
 abbrev pub invariant-loop-i : goal.invariant-loop-i

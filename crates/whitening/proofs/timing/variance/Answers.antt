@@ -1,5 +1,4 @@
 -- `whitening::timing::variance` meets its contract. A standard deviation is the root of a sum whose first term is what `at` gives. Assumes nothing.
-use borrow.Author.Rules.{rules}
 use native.Mathlib.Omega.{arith}
 use Rattle.dense.proofs.Places.{room}
 use Rattle.whitening.specs.Covariance.{sigma}
