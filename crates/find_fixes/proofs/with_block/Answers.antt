@@ -24,12 +24,12 @@ returns c =
     let e = c.join-next.ensures ∙ ap₂ (λ (x y : Held). joined x args.base y) c.held.ensures c.nearest_in.ensures in record {
       nearest = e;
       whole = goes_on args.block.now args.point args.base args.best
-            (record {
-              found = c.join-next.result.found;
-              place = c.join-next.result.place;
-              distance = c.join-next.result.distance;
-              c.before.before.before.before = c.worse-refusal.result;
-            })
-            e;
+          (record {
+            found = c.join-next.result.found;
+            place = c.join-next.result.place;
+            distance = c.join-next.result.distance;
+            refusal = c.worse-refusal.result;
+          })
+          e;
       refusal = c.worse-refusal.ensures ∙ ap (λ (r : ℕ). cond (eqb r 0) args.best.refusal r) c.nearest_refusal.ensures;
     }

@@ -8,9 +8,9 @@ use Rattle.find_fixes.proofs.lines.with_whole.Goals as goal
 pub truncating_f64_to_u64-requires : goal.truncating_f64_to_u64-requires
 unfolding of_bits neg
 truncating_f64_to_u64-requires c = record {
-      lower_bound = c.requires.1;
-      upper_bound = subst T (sym c.if-mm.true) tt;
-    }
+  lower_bound = c.requires.1;
+  upper_bound = subst T (sym c.if-mm.true) tt;
+}
 
 pub returns-then-mm : goal.returns-then-mm
 unfolding whole
