@@ -1,0 +1,13 @@
+-- `find_fixes::decimals::digits_from` meets its contract: byte by byte (`further`).
+use Rattle.std.proofs.Common.{arith}
+use Rattle.find_fixes.proofs.Reading.{further, ended}
+use Rattle.find_fixes.proofs.decimals.digits_from.Goals as goal
+
+pub loop-i-preserved : goal.loop-i-preserved
+loop-i-preserved c = (
+  omega arith,
+  further c.args.text.now c.loop-i.i c.loop-i.d c.next-more.result _ (omega arith) c.next-more.ensures c.loop-i.invariant.1,
+)
+
+pub returns : goal.returns
+returns c = ended c.args.text.now c.loop-i.i c.loop-i.d _ (omega arith) c.loop-i.invariant.1
