@@ -305,6 +305,24 @@ uses() {
     ' "$1/crates.txt"
 }
 
+# copied TO FOLDER..: copies the folders, as they are named here, below TO, without what rt made of crates in their out/.
+copied() {
+    into=$1
+    shift
+    for path in "$@"; do
+        path=${path#./}
+        mkdir -p "$into/$path"
+        for entry in "$path"/*; do
+            case $entry in
+                crates/*/out) ;;
+                crates/*/*) cp -R "$entry" "$into/$entry" ;;
+                crates/*) copied "$into" "$entry" ;;
+                *) cp -R "$entry" "$into/$entry" ;;
+            esac
+        done
+    done
+}
+
 # mutants SUBJECT KEPT [NAME..]: builds each mutant of oracle/mutants_SUBJECT.txt (or those named), runs oracle/SUBJECT_replay.rs with it on the recorded cases
 # KEPT and says how many of them tell it from the oracle. Fails where the oracle itself differs, or a mutant is not seen.
 mutants() {

@@ -33,7 +33,6 @@ use Rattle.problem.specs.declared.Problem.{Problem}
 use Rattle.problem.specs.Problem as problem
 use Rattle.problem.specs.Problem.{site_at, position, transmit_m}
 use Rattle.words.specs.Words.{f64_at}
-use Rattle.receptions.specs.declared.Reception.{Reception}
 use Rattle.receptions.specs.Receptions.{floats, fields_of}
 use Rattle.receptions.proofs.Filling.{fill-at}
 use Rattle.inputs.specs.declared.Check.TheVariants.{Passed}

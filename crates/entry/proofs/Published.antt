@@ -44,7 +44,6 @@ use Rattle.rounds.specs.Setting as answers
 use Rattle.rounds.specs.Finish.{max_variance_m2, cholesky3}
 use Rattle.rounds.specs.Mirrored.{covariance}
 use Rattle.rounds.specs.Solve.{number, refusal_number, solve_problem}
-use Rattle.rounds.specs.Demand.{Fixed, rounds, remaining}
 use Rattle.rounds.proofs.Found.{demand-met}
 use Rattle.rounds.proofs.Published.{Noisy, FiniteFix, fix-finite, fix-claimed, fix-on-earth, fix-chi2-up}
 use Rattle.record.specs.declared.content.Fix.{Fix}

@@ -13,7 +13,6 @@ use Rattle.geo.specs.Geo.{from_mm}
 use Rattle.sets.specs.Mask.{has}
 use Rattle.receptions.specs.declared.Reception.{Reception}
 use Rattle.receptions.specs.declared.Fields.{Fields}
-use Rattle.receptions.specs.Identities.{ascends}
 use Rattle.receptions.specs.Receptions.{fill_to, floats, fields_of}
 use Rattle.receptions.specs.Held.{site_in}
 use Rattle.receptions.proofs.Filling.{fill-same}

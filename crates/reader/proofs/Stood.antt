@@ -1,13 +1,12 @@
 -- What stands at each place of a fix's record: its table, read word by word, and the bytes between the words. Assumes nothing.
 use Prim.Native.Nat.{ℕ, zero, suc, ◌+◌, ◌*◌, ◌/◌, ◌%◌, ◌^◌, ◌<◌}
-use mathlib.Core.Path.{◌≡◌, refl, sym, ap, ◌∙◌}
-use mathlib.Core.List.{List, [], ◌∷◌}
+use mathlib.Core.Path.{◌≡◌, sym, ap, ◌∙◌}
+use mathlib.Core.List.{List}
 use native.Mathlib.Omega.{arith}
 use native.Mathlib.Nat.{pow-suc, one-le-pow}
-use lib.Dec.{T}
 use lib.Arith.{mod-mul}
 use lib.ListN.{drop}
-use lib.Ieee.{Float, binary64, fits}
+use lib.Ieee.{Float, binary64}
 use lib.Ieee.Bits.{of_bits-to_bits, to_bits-lt}
 use mir.Syntax.{w64}
 use mir.Val.{SFits}

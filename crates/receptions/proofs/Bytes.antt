@@ -1,11 +1,11 @@
 -- Bytes compared place by place: where two lists first differ, and where they never do; and 32 bytes of a file. Assumes nothing.
 use Prim.Native.Nat.{ℕ, zero, suc, ◌+◌, ◌<◌, ◌≤◌}
-use mathlib.Core.Path.{◌≡◌, refl, sym, subst, ◌∙◌, ap}
-use mathlib.Core.Logic.{◌⊎◌, inl, inr, ◌↔◌}
+use mathlib.Core.Path.{◌≡◌, refl, sym, subst, ◌∙◌}
+use mathlib.Core.Logic.{◌⊎◌, inl, inr}
 use mathlib.Core.List.{List, [], ◌∷◌}
 use native.Mathlib.Omega.{arith}
 use native.Mathlib.Nat.{eq-or-lt_of_le}
-use lib.ListN.{get_or, set, length, take, drop, replicate, length-drop}
+use lib.ListN.{get_or, length, drop, replicate, length-drop}
 use lib.Seq.{ext_get_or, get_or-take, get_or-drop, length-take-le}
 use Rattle.receptions.specs.declared.identity.Ordering.{Ordering}
 use Rattle.receptions.specs.declared.identity.Ordering.TheVariants.{Less, Equal, Greater}

@@ -3,7 +3,7 @@ use mathlib.Core.Path.{◌≡◌, ap, subst}
 use mathlib.Core.Bool.{false}
 use Rattle.receptions.specs.declared.ObservationId.{ObservationId}
 use Rattle.receptions.specs.Identities.{compare_numbers, compare_bytes, compare, is_less, before}
-use Rattle.receptions.specs.Meaning.{StrictTotal, IdentitiesOrdered, EqualInEveryField, FourInTurn}
+use Rattle.receptions.specs.Meaning.{IdentitiesOrdered, EqualInEveryField, FourInTurn}
 use Rattle.receptions.proofs.Ordered.{turn-said, turn-meant, numbers-lt, lt-numbers, numbers-ordered, bytes-ordered, message, timestamp, epoch}
 use Rattle.receptions.proofs.Ordered.{is-less, not-before-self, before-through, neither-before}
 use Rattle.receptions.proofs.Bytes.{less-said, less-meant}

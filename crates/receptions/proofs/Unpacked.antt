@@ -8,7 +8,7 @@ use native.Mathlib.Omega.{arith}
 use native.Mathlib.Nat.{eq-or-lt_of_le}
 use native.Mathlib.Numerals.{add-one}
 use borrow.Author.Tests.{lt-ltb}
-use lib.Dec.{T, eqb, ltb, ltb→lt, eqb-suc-zero}
+use lib.Dec.{eqb, ltb, ltb→lt, eqb-suc-zero}
 use lib.ListN.{get_or, set, length, length-set, replicate, length-replicate}
 use lib.IntN.{pos}
 use lib.Ieee.{nan}

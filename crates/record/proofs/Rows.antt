@@ -2,7 +2,7 @@
 use Prim.Native.Nat.{ℕ, ◌+◌, ◌<◌, ◌≤◌, ◌^◌}
 use mathlib.Core.Path.{◌≡◌, refl, ◌∙◌}
 use mathlib.Core.List.{List, [], ◌∷◌, ◌++◌}
-use lib.ListN.{length, set, length-set}
+use lib.ListN.{length, length-set}
 use lib.Ieee.{Float, binary64, to_bits}
 use Rattle.words.specs.Words.{u64_at, put_u16, put_u32, put_u64, put_i64, put_f64}
 use Rattle.words.proofs.Back.{put-length, read_back}

@@ -1,6 +1,6 @@
 -- A covariance of three rows that passes the two tests of `finish` has finite entries on and left of the diagonal, and variances above 0: an entry
 -- that is not finite would leave no pivot above 0. Assumes nothing.
-use Rattle.std.proofs.Common.{◌≡◌, ℕ, Bool, true, false, cond, not, T, List, [], ◌∷◌, replicate, refl, arith}
+use Rattle.std.proofs.Common.{◌≡◌, ℕ, Bool, true, false, cond, T, List, [], ◌∷◌, replicate, refl, arith}
 use lib.Ieee.{Float, binary64, round, mul, lt}
 use lib.Ieee.Fits.{sub-fits}
 use lib.Ieee.Scale.{finite}
@@ -9,9 +9,9 @@ use Rattle.binary64.specs.Root.{root}
 use Rattle.binary64.specs.Meaning.{IsBinary64}
 use Rattle.binary64.proofs.Order.{holds}
 use Rattle.dense.specs.Entries.{minus_dots}
-use Rattle.dense.specs.Factor.{Factor, found, refused, column_to, column, cholesky_to, cholesky}
+use Rattle.dense.specs.Factor.{found, refused, column_to, column, cholesky_to, cholesky}
 use Rattle.limits.specs.Local.{entry}
-use Rattle.rounds.specs.Finish.{max_variance_m2, cholesky3}
+use Rattle.rounds.specs.Finish.{max_variance_m2}
 use Rattle.rounds.specs.Later.{Certain}
 use Rattle.binary64.proofs.Finite.{sub-finite, div-finite, limited, pivot-root, pivot-value}
 

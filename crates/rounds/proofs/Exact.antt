@@ -10,7 +10,6 @@ use Rattle.limits.specs.Local.{entry}
 use Rattle.damped.specs.declared.Fit.{Fit}
 use Rattle.best.specs.Best.{Outcome, refuses, gives}
 use Rattle.best.specs.OfProblem.{Receptions, receptions_of, whitener_over}
-use Rattle.problem.specs.declared.Problem.{Problem}
 use Rattle.record.specs.declared.content.Fix.{Fix}
 use Rattle.rounds.specs.declared.finish.Unpublished.{Unpublished}
 use Rattle.rounds.specs.declared.finish.Unpublished.TheVariants.{Inconsistent, Singular, Uncertain, OutOfRange}

@@ -1,11 +1,11 @@
 -- The floats of a fix are finite: a range of 600,000 m at most has finite coordinates, a normalised residual of 5 at most a finite T, a height within
 -- its limits is that of a place, and a covariance that passes its tests has finite entries. Assumes nothing.
-use Rattle.std.proofs.Common.{◌≡◌, ℕ, zero, suc, ◌+◌, ◌<◌, ◌≤◌, Bool, true, false, cond, not, T, eqb, ◌⊎◌, List, [], ◌∷◌, get_or, replicate, sym, refl, ap, ◌∙◌, subst, inl, inr, arith}
+use Rattle.std.proofs.Common.{◌≡◌, ℕ, zero, suc, ◌<◌, ◌≤◌, true, false, not, T, eqb, ◌⊎◌, List, [], get_or, replicate, sym, ap, ◌∙◌, subst, inl, inr, arith}
 use mathlib.Core.Option.{Option, none, some}
-use lib.Ieee.{Float, nan, inf, fin, binary64, round, neg, lt, le, is_nan, fits, of_bits}
+use lib.Ieee.{Float, nan, inf, fin, binary64, round, neg, lt, le, is_nan, of_bits}
 use lib.Ieee.Fits.{add-fits, sub-fits, mul-fits, cond-fits}
 use lib.Ieee.Scale.{finite}
-use Rattle.binary64.specs.Steps.{◌⊕◌, ◌⊖◌, ◌⊗◌, ◌⊘◌, nought, one, decimal, abs, is_finite}
+use Rattle.binary64.specs.Steps.{◌⊕◌, ◌⊖◌, ◌⊗◌, ◌⊘◌, nought, one, decimal, abs}
 use Rattle.binary64.specs.Meaning.{IsBinary64}
 use Rattle.binary64.specs.Within.{Within}
 use Rattle.binary64.proofs.Clear.{clear}
@@ -13,16 +13,13 @@ use Rattle.binary64.proofs.Interval.{finite-between}
 use Rattle.binary64.proofs.Less.{le_of_not_lt}
 use Rattle.binary64.proofs.Numbers.{finite-num}
 use Rattle.binary64.proofs.Order.{finite-is}
-use Rattle.libm.specs.Trig.{sincos}
-use Rattle.libm.specs.Atan.{atan2}
-use Rattle.libm.specs.Hypotenuse.{hypot}
-use Rattle.geo.specs.Geo.{E2, to_degrees, prime_vertical, height, bowring, bowring_to, from_ecef}
+use Rattle.geo.specs.Geo.{E2, to_degrees, height, bowring, bowring_to, from_ecef}
 use Rattle.geo.specs.Meaning.{IsFinite}
 use Rattle.geo.specs.declared.Geodetic.{Geodetic}
 use Rattle.dense.specs.Entries.{nth, at}
 use Rattle.dense.specs.Inverse.{inverse}
 use Rattle.dense.proofs.Symmetry.{inverse-symmetric}
-use Rattle.sets.specs.Sets.{Subset, count, most_receptions}
+use Rattle.sets.specs.Sets.{Subset, most_receptions}
 use Rattle.sets.proofs.Counting.{count-some}
 use Rattle.problem.specs.declared.Altitude.{Altitude}
 use Rattle.problem.specs.declared.Altitude.TheVariants.{None, Barometric, Gnss}
@@ -31,7 +28,7 @@ use Rattle.problem.specs.Problem.{site_at, position, minimum, range}
 use Rattle.whitening.specs.Covariance.{sigma}
 use Rattle.whitening.specs.Whitened.{residual}
 use Rattle.limits.specs.Heights.{min_height_m, max_height_m}
-use Rattle.limits.specs.Local.{entry, error_inflation, error_floor_m, inflated, published}
+use Rattle.limits.specs.Local.{entry, error_inflation, error_floor_m, inflated}
 use Rattle.limits.specs.Mirrored.{Mirrored}
 use Rattle.limits.proofs.Mirrors.{published-mirrored}
 use Rattle.damped.specs.declared.Fit.{Fit}
@@ -41,9 +38,9 @@ use Rattle.best.specs.OfProblem.{Receptions, receptions_of, starts_over, best_fi
 use Rattle.best.proofs.Found.{answered}
 use Rattle.best.proofs.Over.{answered-over}
 use Rattle.record.specs.declared.content.Fix.{Fix}
-use Rattle.rounds.specs.Setting.{five, fix, kept}
+use Rattle.rounds.specs.Setting.{five, fix}
 use Rattle.rounds.specs.Finish.{max_variance_m2}
-use Rattle.rounds.specs.Solve.{normalised, setting_at, solve_problem}
+use Rattle.rounds.specs.Solve.{normalised, solve_problem}
 use Rattle.rounds.specs.Later.{Certain, covariance_by}
 use Rattle.rounds.specs.Demand.{Fitted, Change, removal, return, Chain, start, then, Fixed, Found, rounds, remaining, used_by, params_by}
 use Rattle.rounds.specs.Demand.{whitened_by}

@@ -3,7 +3,7 @@
 -- rounds, by the definitions of the screen, the best fit and the normalised residual, and specs/Later.antt says what
 -- the source's remaining steps come to. Nothing here but the theorems at the end knows of the loop that computes the
 -- answer. Statements only.
-use Rattle.std.specs.Prelude.{◌≡◌, ℕ, zero, suc, ◌+◌, ◌*◌, ◌<◌, ◌≤◌, Bool, not, ◌&&◌, T, ◌≢◌, ◌⊎◌, ◌↔◌, List, [], ◌∷◌, is_nan, Float}
+use Rattle.std.specs.Prelude.{◌≡◌, ℕ, zero, suc, ◌+◌, ◌*◌, ◌<◌, ◌≤◌, not, ◌&&◌, T, ◌≢◌, ◌⊎◌, ◌↔◌, List, [], ◌∷◌, is_nan, Float}
 use Rattle.std.proofs.Math.Option.{Option, none, some}
 use Rattle.std.specs.Float.Ieee.{lt, le}
 use Rattle.dense.specs.Entries.{nth}

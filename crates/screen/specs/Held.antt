@@ -4,7 +4,7 @@ use Rattle.std.specs.Prelude.{◌≡◌, Bool, List, ℕ, ◌^◌, ◌<◌, get_
 use Rattle.sets.specs.Mask.{has}
 use Rattle.screen.specs.declared.State.{State}
 use Rattle.screen.specs.State.{Held}
-use Rattle.screen.specs.Screen.{clashes, kept}
+use Rattle.screen.specs.Screen.{kept}
 use Rattle.screen.specs.declared.Outcome.{Outcome}
 use Rattle.screen.specs.Turns.{turn_of, clash_of}
 

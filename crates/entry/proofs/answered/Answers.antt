@@ -1,5 +1,4 @@
 -- `entry::answered` meets its contract: by the cases of the answer (`Replies`). Assumes nothing.
-use borrow.Author.Rules.{rules}
 use Rattle.entry.proofs.Replies.{fix-reply, refusal-reply, unfixed-reply}
 use Rattle.entry.proofs.answered.Goals as goal
 

@@ -1,5 +1,4 @@
 -- `entry::given` meets its contract: a test for each bit. Assumes nothing.
-use borrow.Author.Rules.{rules}
 use Rattle.entry.proofs.given.Goals as goal
 
 pub returns : goal.returns

@@ -1,5 +1,4 @@
 -- `entry::solve` meets its contract: its arrays hold the receptions of its bytes (`few-held`). Assumes nothing.
-use borrow.Author.Rules.{rules}
 use Prim.Native.Nat.{◌/◌}
 use native.Mathlib.Omega.{arith}
 use lib.ListN.{length}

@@ -1,5 +1,4 @@
 -- `entry::turned_away` meets its contract: n is written up to 32, and above 32 no record shows it (`bare-reply`). Assumes nothing.
-use borrow.Author.Rules.{rules}
 use Rattle.entry.proofs.Replies.{away-reply, bare-reply}
 use Rattle.entry.proofs.turned_away.Goals as goal
 

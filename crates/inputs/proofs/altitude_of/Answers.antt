@@ -1,5 +1,4 @@
 -- `inputs::altitude_of` meets its contract: by whether it is there, and its kind. Assumes nothing.
-use borrow.Author.Rules.{rules}
 use mathlib.Core.Path.{◌≡◌, ◌∙◌}
 use mathlib.Core.Bool.{Bool, true}
 use mathlib.Core.List.{List}

@@ -1,6 +1,5 @@
 -- `inputs::check_altitude` meets its contract: by whether it is there. Assumes nothing.
-use borrow.Author.Rules.{rules}
-use mathlib.Core.Path.{◌≡◌, ◌∙◌}
+use mathlib.Core.Path.{◌∙◌}
 use mir.Syntax.{w32}
 use mir.ValLaws.{to_z-of_z}
 use Rattle.inputs.proofs.Steps.{sized-there}

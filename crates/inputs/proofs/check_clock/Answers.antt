@@ -1,5 +1,4 @@
 -- `inputs::check_clock` meets its contract: by whether it is there, and its size. Assumes nothing.
-use borrow.Author.Rules.{rules}
 use native.Mathlib.Omega.{arith}
 use borrow.Author.Tests.{eq-eqb, ne_eqb}
 use Rattle.dense.proofs.Places.{room}

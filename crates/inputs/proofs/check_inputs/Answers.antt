@@ -1,12 +1,8 @@
 -- `inputs::check_inputs` meets its contract: in the order of the definition (`torn`, `many`, `rest`). Assumes nothing.
 use mathlib.Core.Path.{◌≡◌, sym, ◌∙◌}
-use mathlib.Core.Bool.{Bool, true, false}
-use mathlib.Core.List.{List}
+use mathlib.Core.Bool.{Bool, true}
 use borrow.Author.Tests.{le-leb, lt-leb}
-use Prim.Native.Nat.{ℕ}
-use Rattle.receptions.specs.declared.Reception.{Reception}
-use Rattle.inputs.specs.declared.Given.{Given}
-use Rattle.inputs.specs.Inputs.{Inputs, inputs_of, if_there, sized, untorn}
+use Rattle.inputs.specs.Inputs.{Inputs, inputs_of, sized, untorn}
 use Rattle.inputs.proofs.Order.{covered-by, torn-1, torn-2, torn-3, all_whole, torn, many, rest}
 use Rattle.inputs.proofs.check_inputs.Goals as goal
 

@@ -1,5 +1,4 @@
 -- `inputs::check_reception` meets its contract: by its parts. Assumes nothing.
-use borrow.Author.Rules.{rules}
 use mathlib.Core.Path.{◌∙◌}
 use Rattle.inputs.proofs.check_reception.Goals as goal
 

@@ -2,14 +2,13 @@
 -- reception (`first-held`). Assumes nothing.
 use borrow.Author.Rules.{rules}
 use mathlib.Core.Path.{◌≡◌, refl, ◌∙◌}
-use Prim.Native.Nat.{◌-◌, ◌≤◌}
 use native.Mathlib.Omega.{arith}
 use lib.ListN.{get_or}
 use lib.IntN.{pos}
 use mir.Syntax.{w64}
 use mir.ValLaws.{to_z-of_z}
 use Rattle.inputs.specs.Faults.{first_to}
-use Rattle.inputs.proofs.Held.{check_in, first-held}
+use Rattle.inputs.proofs.Held.{first-held}
 use Rattle.inputs.proofs.Steps.{check-next}
 use Rattle.inputs.proofs.check_receptions.Goals as goal
 
@@ -24,7 +23,7 @@ loop-i-preserved c =
       omega arith,
       check-next f i c.loop-i.invariant.1
           (c.good_reception-good.ensures
-          ∙ rw (to_z-of_z w64 (get_or f.time i (pos 0)) (record { sfits = c.good_reception-arg-1.given }), c.site_in-site.ensures))
+          ∙ rw (to_z-of_z w64 (get_or f.time i (pos 0)) (record { sfits = search rules }), c.site_in-site.ensures))
           c.has-above.ensures c.check_reception.ensures c.or_else-found.ensures,
     )
 

@@ -1,5 +1,4 @@
 -- `inputs::check_row` meets its contract: by its parts. Assumes nothing.
-use borrow.Author.Rules.{rules}
 use mathlib.Core.Path.{◌∙◌}
 use Rattle.inputs.proofs.check_row.Goals as goal
 

@@ -1,7 +1,5 @@
 -- `inputs::check_rows` meets its contract: each turn adds the next row's check (`first_next`). Assumes nothing.
-use borrow.Author.Rules.{rules}
 use mathlib.Core.Path.{◌≡◌, refl, ◌∙◌}
-use Prim.Native.Nat.{◌-◌, ◌≤◌}
 use native.Mathlib.Omega.{arith}
 use Rattle.inputs.specs.Faults.{first_to}
 use Rattle.inputs.specs.Inputs.{check_row}

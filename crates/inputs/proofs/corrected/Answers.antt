@@ -1,6 +1,5 @@
 -- `inputs::corrected` meets its contract: by whether the correction is 0 (`is-zero`, `not-zero`); it is an i32, which a binary64 holds. Assumes
 -- nothing.
-use borrow.Author.Rules.{rules}
 use mir.Syntax.{w32}
 use mir.ValLaws.{to_z-of_z}
 use Rattle.inputs.specs.Inputs.{corrected}

@@ -1,10 +1,7 @@
 -- `inputs::good_row` meets its contract: the tests so far are those of the entries from the diagonal to the one before j (`row_next`). Assumes
 -- nothing.
-use borrow.Author.Rules.{rules}
 use mathlib.Core.Path.{◌≡◌, ◌∙◌}
-use Prim.Native.Nat.{◌-◌, ◌≤◌}
 use native.Mathlib.Omega.{arith}
-use Rattle.inputs.specs.Inputs.{good_row_to}
 use Rattle.inputs.proofs.Steps.{row-start, row_next}
 use Rattle.inputs.proofs.good_row.Goals as goal
 

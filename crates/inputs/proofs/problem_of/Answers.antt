@@ -1,6 +1,6 @@
 -- `inputs::problem_of` meets its contract: what passed is whole and small enough to be read (`Order`), and in the domain (`Sound`); all receptions
 -- that the arrays hold pass, if some do (`same_check`). Assumes nothing.
-use mathlib.Core.Path.{refl, sym, ◌∙◌}
+use mathlib.Core.Path.{refl, ◌∙◌}
 use mathlib.Core.Bool.{true}
 use mir.Syntax.{w64}
 use mir.ValLaws.{to_z-of_z}

@@ -1,6 +1,6 @@
 -- `inputs::put_covariance` meets its contract: each turn stores the next entry (`fill-next`). Assumes nothing.
 use mathlib.Core.Path.{◌≡◌}
-use Prim.Native.Nat.{◌*◌, ◌-◌, ◌≤◌}
+use Prim.Native.Nat.{◌*◌}
 use native.Mathlib.Omega.{arith}
 use Rattle.dense.proofs.Places.{room}
 use Rattle.receptions.specs.Receptions.{fill_to, floats}

@@ -1,6 +1,4 @@
 -- `inputs::shown_of` meets its contract: by whether it is there, and its kind. Assumes nothing.
-use borrow.Author.Rules.{rules}
-use mathlib.Core.Path.{◌≡◌}
 use borrow.Author.Tests.{eq-eqb, ne_eqb}
 use Rattle.inputs.proofs.Steps.{sized-there}
 use Rattle.inputs.proofs.shown_of.Goals as goal

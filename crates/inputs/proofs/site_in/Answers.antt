@@ -12,7 +12,7 @@ returns c =
     let mm = c.args.mm.now in
     let i = c.args.i in
     rw (
-      to_z-of_z w64 (get_or mm (3 * i) (pos 0)) (record { sfits = c.result-1.given }),
-      to_z-of_z w64 (get_or mm (3 * i + 1) (pos 0)) (record { sfits = c.result-2-1.given }),
-      to_z-of_z w64 (get_or mm (3 * i + 2) (pos 0)) (record { sfits = c.result-3-1.given }),
+      to_z-of_z w64 (get_or mm (3 * i) (pos 0)) (record { sfits = search rules }),
+      to_z-of_z w64 (get_or mm (3 * i + 1) (pos 0)) (record { sfits = search rules }),
+      to_z-of_z w64 (get_or mm (3 * i + 2) (pos 0)) (record { sfits = search rules }),
     )

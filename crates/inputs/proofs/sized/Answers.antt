@@ -1,5 +1,4 @@
 -- `inputs::sized` meets its contract: by whether the input is there. Assumes nothing.
-use borrow.Author.Rules.{rules}
 use Rattle.inputs.proofs.sized.Goals as goal
 
 pub returns-then-there : goal.returns-then-there

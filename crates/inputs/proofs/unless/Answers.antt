@@ -1,5 +1,4 @@
 -- `inputs::unless` meets its contract: by the test. Assumes nothing.
-use borrow.Author.Rules.{rules}
 use Rattle.inputs.proofs.unless.Goals as goal
 
 pub returns : goal.returns

@@ -2,7 +2,6 @@
 use mathlib.Core.Path.{sym, ap, ◌∙◌}
 use Prim.Native.Nat.{ℕ, ◌+◌}
 use native.Mathlib.Omega.{arith}
-use borrow.Author.Rules.{rules}
 use Rattle.sets.specs.Mask.{has}
 use Rattle.patterns.proofs.Places.{pairs-six, clash-ordered, clash-turned, clash-alone}
 use Rattle.patterns.proofs.clash.Goals as goal

@@ -1,10 +1,8 @@
 -- `patterns::failing` meets its contract. The invariant: the rows below a are those of the pattern (`Filled`). Assumes nothing.
-use mathlib.Core.Path.{◌≡◌, refl}
+use mathlib.Core.Path.{◌≡◌}
 use Prim.Native.Nat.{◌-◌, ◌≤◌}
-use native.Mathlib.Omega.{arith}
-use lib.ListN.{length, length-set}
-use borrow.Author.Rules.{rules}
-use Rattle.patterns.proofs.Rows.{Filled, filled-start, filled_next, filled-end}
+use lib.ListN.{length}
+use Rattle.patterns.proofs.Rows.{Filled}
 use Rattle.patterns.proofs.failing.Given as goal
 
 abbrev pub invariant-loop-a : goal.invariant-loop-a

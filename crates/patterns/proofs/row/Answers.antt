@@ -1,8 +1,7 @@
 -- `patterns::row` meets its contract. The invariant: the row has the bits of those below b (`mask_of`). Assumes nothing.
 use mathlib.Core.Path.{◌≡◌, refl, sym, ap, ◌∙◌}
-use Prim.Native.Nat.{ℕ, ◌+◌, ◌-◌, ◌*◌, ◌^◌, ◌%◌, ◌≤◌}
+use Prim.Native.Nat.{ℕ, ◌+◌, ◌*◌, ◌^◌, ◌%◌}
 use native.Mathlib.Omega.{arith}
-use borrow.Author.Rules.{rules}
 use Rattle.sets.specs.Mask.{has, mask_of}
 use Rattle.patterns.specs.Patterns.{clash}
 use Rattle.patterns.proofs.Rows.{mask-adds, mask-skips, mask-room, row_is}
@@ -28,7 +27,7 @@ loop-b-preserved c =
       omega arith,
       elim c.if-clash.branch [
         | then-clash w ↦
-          w.row-is ∙ ap (λ (x : ℕ). x + 1 * 2 ^ at.b % 2 ^ 32) at.invariant.1 ∙ mask-adds S at.b (omega arith) (e ∙ w.if-clash.true)
+            w.row-is ∙ ap (λ (x : ℕ). x + 1 * 2 ^ at.b % 2 ^ 32) at.invariant.1 ∙ mask-adds S at.b (omega arith) (e ∙ w.if-clash.true)
         | else-clash w ↦ w.row-is ∙ at.invariant.1 ∙ mask-skips S at.b (e ∙ w.if-clash.false)
       ],
     )

@@ -1,5 +1,4 @@
 -- `reader::alone` meets its contract. By the definition. Assumes nothing.
-use borrow.Author.Rules.{rules}
 use Rattle.reader.specs.Read.{alone}
 use Rattle.reader.proofs.alone.Goals as goal
 

@@ -1,5 +1,4 @@
 -- `reader::bytes_of` meets its contract. Either return is a case of the definition. Assumes nothing.
-use borrow.Author.Rules.{rules}
 use borrow.Author.Tests.{eq-eqb, ne_eqb}
 use Rattle.reader.specs.Read.{bytes_of}
 use Rattle.reader.proofs.bytes_of.Goals as goal

@@ -1,5 +1,4 @@
 -- `reader::read` meets its contract. Each return is a case of the definition. Assumes nothing.
-use borrow.Author.Rules.{rules}
 use borrow.Author.Tests.{eq-eqb, ne_eqb}
 use mathlib.Core.Path.{sym, ◌∙◌}
 use Rattle.reader.specs.Read.{read_of}

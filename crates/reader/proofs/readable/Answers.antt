@@ -1,5 +1,4 @@
 -- `reader::readable` meets its contract. Either return is a case of the definition. Assumes nothing.
-use borrow.Author.Rules.{rules}
 use mathlib.Core.Path.{ap, ◌∙◌}
 use Rattle.reader.specs.Tests.{meets_rules}
 use Rattle.reader.proofs.Writing.{fix-readable, refusal-readable}

@@ -1,5 +1,4 @@
 -- `reader::turned_away` meets its contract: zeros beside the refusal. Assumes nothing.
-use borrow.Author.Rules.{rules}
 use Rattle.reader.proofs.turned_away.Goals as goal
 
 pub returns : goal.returns

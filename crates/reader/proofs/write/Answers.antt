@@ -1,5 +1,4 @@
 -- `reader::write` meets its contract. Each return is an end of the definition (`Writing`). Assumes nothing.
-use borrow.Author.Rules.{rules}
 use mathlib.Core.Path.{sym, ◌∙◌}
 use native.Mathlib.Omega.{arith}
 use Rattle.reader.proofs.Writing.{short, unread, written}

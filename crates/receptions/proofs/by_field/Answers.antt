@@ -1,13 +1,12 @@
 -- `receptions::by_field` meets its contract: each turn stores the next reception's fields and its bit (`fields-next`). Assumes nothing.
 use borrow.Author.Rules.{rules}
 use mathlib.Core.Path.{◌≡◌, refl}
-use Prim.Native.Nat.{◌-◌, ◌≤◌}
 use native.Mathlib.Omega.{arith}
 use mir.Syntax.{w64}
 use mir.ValLaws.{to_z-of_z}
 use Rattle.sets.specs.Mask.{mask_of}
 use Rattle.receptions.specs.Receptions.{listed_at, fill_to, fields_of}
-use Rattle.receptions.proofs.Unpacked.{last_of, last-next, bits-lt, fields-next}
+use Rattle.receptions.proofs.Unpacked.{last-next, bits-lt, fields-next}
 use Rattle.receptions.proofs.by_field.Goals as goal
 
 pub loop-i-init : goal.loop-i-init
@@ -25,7 +24,7 @@ loop-i-preserved c =
       omega arith,
       (
         last-next at i,
-        rw (to_z-of_z w64 (at i).time (record { sfits = c.struct_told-1.given.1.0.1 }), c.put_site.ensures)
+        rw (to_z-of_z w64 (at i).time (record { sfits = search rules }), c.put_site.ensures)
             (fields-next at i c.loop-i.invariant.1.1 refl c.loop-i.invariant.1.0 c.ascends.ensures c.marked-ascending.ensures),
       ),
     )

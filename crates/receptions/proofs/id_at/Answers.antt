@@ -1,5 +1,4 @@
 -- `receptions::id_at` meets its contract: field by field. Assumes nothing.
-use borrow.Author.Rules.{rules}
 use Rattle.receptions.specs.Receptions.{id_at}
 use Rattle.receptions.proofs.id_at.Goals as goal
 

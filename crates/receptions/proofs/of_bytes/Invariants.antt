@@ -1,14 +1,8 @@
 -- `receptions::of_bytes` meets its contract: each turn stores the next reception's fields and its bit (`fields-next`). Assumes nothing.
-use borrow.Author.Rules.{rules}
-use mathlib.Core.Path.{◌≡◌, refl, ap, ◌∙◌}
-use Prim.Native.Nat.{◌-◌, ◌≤◌}
-use native.Mathlib.Omega.{arith}
-use mir.Syntax.{w64}
-use mir.ValLaws.{to_z-of_z}
-use Rattle.sets.specs.Mask.{mask_of}
-use Rattle.receptions.specs.declared.Reception.{Reception}
-use Rattle.receptions.specs.Receptions.{reception_at, fill_to, fields_of}
-use Rattle.receptions.proofs.Unpacked.{last_of, last-next, bits-lt, fields-next}
+use mathlib.Core.Path.{◌≡◌}
+use Prim.Native.Nat.{◌≤◌}
+use Rattle.receptions.specs.Receptions.{reception_at, fields_of}
+use Rattle.receptions.proofs.Unpacked.{last_of}
 use Rattle.receptions.proofs.of_bytes.Given as goal
 
 abbrev pub invariant-loop-i : goal.invariant-loop-i
@@ -23,6 +17,3 @@ invariant-loop-i l =
       noise_m2 = l.noise_m2;
       filler = l.filler;
     } ≡ fields_of (reception_at l.receptions) l.i))
-
-abbrev pub decreases-loop-i : goal.decreases-loop-i
-decreases-loop-i l = l.n - l.i

@@ -1,6 +1,6 @@
 -- `receptions::of_list` meets its contract: each turn copies one reception (`begins-next`), and `by_field` reads no others
 -- (`fields-same`). Assumes nothing.
-use Rattle.std.proofs.Common.{ℕ, ◌<◌, refl, arith, ◌∙◌}
+use Rattle.std.proofs.Common.{refl, arith, ◌∙◌}
 use Rattle.receptions.specs.Receptions.{listed_at}
 use Rattle.receptions.proofs.Unpacked.{begins-next, fields-same}
 use Rattle.receptions.proofs.of_list.Goals as goal

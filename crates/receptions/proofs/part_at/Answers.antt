@@ -1,7 +1,6 @@
 -- `receptions::part_at` meets its contract: each turn stores the next byte (`fill-next`), and all are the part (`part_filled`). Assumes nothing.
-use borrow.Author.Rules.{rules}
 use mathlib.Core.Path.{◌≡◌, refl, ◌∙◌}
-use Prim.Native.Nat.{◌+◌, ◌-◌, ◌≤◌}
+use Prim.Native.Nat.{◌+◌}
 use native.Mathlib.Omega.{arith}
 use lib.ListN.{get_or, replicate}
 use Rattle.receptions.specs.Receptions.{fill_to}

@@ -1,5 +1,4 @@
 -- `receptions::reception_at` meets its contract: field by field, and i64s come back from their bits (`to_z-of_z`). Assumes nothing.
-use borrow.Author.Rules.{rules}
 use mir.Syntax.{w64}
 use mir.ValLaws.{to_z-of_z}
 use Rattle.receptions.specs.Receptions.{reception_at}

@@ -11,7 +11,7 @@ use Rattle.record.proofs.fix.Goals as goal
 pub returns : goal.returns
 returns c =
     let shown = c.args.shown in
-    let back = to_z-of_z w64 shown.transmit_ps (record { sfits = c.struct_told-1.given.1.1.1.1.1.0.1 }) in
+    let back = to_z-of_z w64 shown.transmit_ps (record { sfits = search rules }) in
     parts _ _ shown _ _ _ _ _ _ _ _ _ _ _ _ _
     c.put_head.ensures
     c.put_u32.ensures

@@ -1,5 +1,4 @@
 -- `record::put_foot` meets its contract: the rows are written in turn. Assumes nothing.
-use borrow.Author.Rules.{rules}
 use Rattle.record.proofs.put_foot.Goals as goal
 
 pub returns : goal.returns

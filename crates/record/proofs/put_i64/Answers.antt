@@ -1,5 +1,4 @@
 -- `record::put_i64` meets its contract: the number comes back from its bits (`to_z-of_z`). Assumes nothing.
-use borrow.Author.Rules.{rules}
 use mir.Syntax.{w64}
 use mir.ValLaws.{to_z-of_z}
 use Rattle.record.proofs.put_i64.Goals as goal

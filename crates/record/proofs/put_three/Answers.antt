@@ -1,5 +1,4 @@
 -- `record::put_three` meets its contract: three stores in turn. Assumes nothing.
-use borrow.Author.Rules.{rules}
 use Rattle.record.proofs.put_three.Goals as goal
 
 pub returns : goal.returns

@@ -1,5 +1,4 @@
 -- `record::refusal` meets its contract: either return is a case of the definition. Assumes nothing.
-use borrow.Author.Rules.{rules}
 use borrow.Author.Tests.{le-leb, lt-leb}
 use Rattle.record.specs.Record.{refusal}
 use Rattle.record.proofs.refusal.Goals as goal

@@ -1,10 +1,10 @@
 -- `record::store` meets its contract: after i turns the first i bytes are the record's and the others the output's (`copy-next`). Assumes nothing.
 use borrow.Author.Rules.{rules}
-use Prim.Native.Nat.{ℕ, ◌-◌, ◌≤◌}
+use Prim.Native.Nat.{ℕ}
 use mathlib.Core.Path.{◌≡◌, refl, ap, ◌∙◌}
-use mathlib.Core.List.{List, ◌++◌}
+use mathlib.Core.List.{List}
 use native.Mathlib.Omega.{arith}
-use lib.ListN.{length, take, drop, get_or, set, length-set}
+use lib.ListN.{length, get_or, set, length-set}
 use Rattle.record.proofs.Copies.{copy-next, copy-end}
 use Rattle.record.proofs.store.Goals as goal
 

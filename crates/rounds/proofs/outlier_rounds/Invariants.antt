@@ -1,14 +1,8 @@
 -- `rounds::outlier_rounds` meets its contract. The invariant: from the state, the rounds that are left give the answer (`Left`), whichever are kept.
 -- Assumes nothing.
-use Rattle.std.proofs.Common.{◌≡◌, ℕ, ◌+◌, ◌-◌, ◌*◌, ◌^◌, ◌<◌, ◌≤◌, ℤ, sym, refl, ap, ◌∙◌, subst, arith, w64, rules}
-use mir.ValLaws.{to_z-of_z}
-use Rattle.sets.specs.Mask.{has}
-use Rattle.best.specs.OfProblem.{Receptions}
+use Rattle.std.proofs.Common.{◌-◌, ◌^◌, ◌<◌, ◌≤◌, ℤ}
 use Rattle.best.specs.Held.{receptions}
-use Rattle.rounds.specs.declared.fitting.State.{State}
-use Rattle.rounds.specs.Solve.{later}
-use Rattle.rounds.specs.Held.{as_answer}
-use Rattle.rounds.proofs.Runs.{Left, left-start, left-ends, left-settles, left-changes, left-never}
+use Rattle.rounds.proofs.Runs.{Left}
 use Rattle.rounds.proofs.outlier_rounds.Given as goal
 
 abbrev pub invariant-loop-k : goal.invariant-loop-k

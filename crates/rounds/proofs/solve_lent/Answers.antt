@@ -1,5 +1,5 @@
 -- `rounds::solve_lent` meets its contract. The rounds start from what the screen keeps, under the definition's cap. Assumes nothing.
-use Rattle.std.proofs.Common.{ℤ, ap, ◌∙◌, ap₂, arith, w64, rules}
+use Rattle.std.proofs.Common.{ℤ, ap, ◌∙◌, ap₂, arith, w64}
 use mir.ValLaws.{to_z-of_z}
 use Rattle.sets.specs.Sets.{Subset}
 use Rattle.sets.specs.Mask.{has}

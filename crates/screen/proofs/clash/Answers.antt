@@ -1,6 +1,5 @@
 -- `screen::clash` meets its contract: the distances are the definition's, and the pair passes where its baseline is at least the least that passes
 -- (`clash-is`). Assumes nothing.
-use borrow.Author.Rules.{rules}
 use Rattle.screen.proofs.Reach.{clash-is}
 use Rattle.screen.proofs.clash.Goals as goal
 

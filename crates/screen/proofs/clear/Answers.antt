@@ -1,9 +1,8 @@
 -- `screen::clear` meets its contract. The invariant: the rows below i have no bit (`Bare`). Assumes nothing.
 use mathlib.Core.Path.{◌≡◌}
-use Prim.Native.Nat.{ℕ, ◌-◌, ◌≤◌}
+use Prim.Native.Nat.{ℕ}
 use native.Mathlib.Omega.{arith}
-use borrow.Author.Rules.{rules}
-use Rattle.screen.proofs.Rows.{Bare, bare-next, bare-clear}
+use Rattle.screen.proofs.Rows.{bare-next, bare-clear}
 use Rattle.screen.proofs.clear.Goals as goal
 
 pub loop-i-init : goal.loop-i-init

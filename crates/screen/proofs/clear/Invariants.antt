@@ -1,9 +1,6 @@
 -- `screen::clear` meets its contract. The invariant: the rows below i have no bit (`Bare`). Assumes nothing.
-use mathlib.Core.Path.{◌≡◌}
-use Prim.Native.Nat.{ℕ, ◌-◌, ◌≤◌}
-use native.Mathlib.Omega.{arith}
-use borrow.Author.Rules.{rules}
-use Rattle.screen.proofs.Rows.{Bare, bare-next, bare-clear}
+use Prim.Native.Nat.{◌-◌, ◌≤◌}
+use Rattle.screen.proofs.Rows.{Bare}
 use Rattle.screen.proofs.clear.Given as goal
 
 abbrev pub invariant-loop-i : goal.invariant-loop-i

@@ -1,11 +1,6 @@
 -- `screen::failing` meets its contract. The invariant: the rows hold the failing pairs of the first i. Assumes nothing.
 use mathlib.Core.Path.{◌≡◌, refl}
-use Prim.Native.Nat.{◌-◌, ◌≤◌}
 use native.Mathlib.Omega.{arith}
-use lib.ListN.{length}
-use borrow.Author.Rules.{rules}
-use Rattle.screen.specs.Pair.{fails}
-use Rattle.screen.specs.Held.{pairs_of}
 use Rattle.screen.proofs.Rows.{marked-none}
 use Rattle.screen.proofs.failing.Goals as goal
 
@@ -14,9 +9,9 @@ loop-i-init c = (omega arith, refl, marked-none c.args.times.now c.args.sites.no
 
 pub mark-requires : goal.mark-requires
 mark-requires c = record {
-      i_bound = (omega arith, c.loop-i.invariant.1);
-      rows_value = c.loop-i.invariant.2;
-    }
+  i_bound = (omega arith, c.loop-i.invariant.1);
+  rows_value = c.loop-i.invariant.2;
+}
 
 pub loop-i-preserved : goal.loop-i-preserved
 loop-i-preserved c = (omega arith, c.mark.ensures.rows_len, c.mark.ensures.rows_after)

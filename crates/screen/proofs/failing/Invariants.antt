@@ -1,12 +1,9 @@
 -- `screen::failing` meets its contract. The invariant: the rows hold the failing pairs of the first i. Assumes nothing.
-use mathlib.Core.Path.{◌≡◌, refl}
+use mathlib.Core.Path.{◌≡◌}
 use Prim.Native.Nat.{◌-◌, ◌≤◌}
-use native.Mathlib.Omega.{arith}
 use lib.ListN.{length}
-use borrow.Author.Rules.{rules}
 use Rattle.screen.specs.Pair.{fails}
 use Rattle.screen.specs.Held.{pairs_of}
-use Rattle.screen.proofs.Rows.{marked-none}
 use Rattle.screen.proofs.failing.Given as goal
 
 abbrev pub invariant-loop-i : goal.invariant-loop-i

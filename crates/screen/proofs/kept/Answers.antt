@@ -1,6 +1,5 @@
 -- `screen::kept` meets its contract: where no two fail all are kept, and elsewhere it gives one part of what the removals tell. Assumes nothing.
 use mathlib.Core.Path.{◌∙◌}
-use borrow.Author.Rules.{rules}
 use Rattle.sets.specs.Sets.{first}
 use Rattle.screen.specs.Held.{pairs_of}
 use Rattle.screen.specs.Meaning.{done}

@@ -1,7 +1,6 @@
 -- `screen::least_baseline` meets its contract: both answers are what light goes in the gap less the margin, cut off at zero (`passes-from`). Assumes
 -- nothing.
 use native.Mathlib.Omega.{arith}
-use borrow.Author.Rules.{rules}
 use Rattle.screen.proofs.Reach.{passes-from}
 use Rattle.screen.proofs.least_baseline.Goals as goal
 

@@ -1,7 +1,6 @@
 -- `screen::less` meets its contract: what is taken off is the bit of w (`bit_is`). Assumes nothing.
 use mathlib.Core.Path.{ap}
 use Prim.Native.Nat.{ℕ, ◌-◌}
-use borrow.Author.Rules.{rules}
 use Rattle.screen.proofs.Numbers.{bit_is}
 use Rattle.screen.proofs.less.Goals as goal
 

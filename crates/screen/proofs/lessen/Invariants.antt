@@ -1,11 +1,9 @@
 -- `screen::lessen` meets its contract. The invariant: one is taken off each below i that fails with w (`Fewer`). Assumes nothing.
 use mathlib.Core.Path.{◌≡◌}
 use Prim.Native.Nat.{ℕ, ◌-◌, ◌≤◌}
-use native.Mathlib.Omega.{arith}
-use lib.ListN.{length, length-set}
-use borrow.Author.Rules.{rules}
+use lib.ListN.{length}
 use Rattle.screen.specs.Held.{pairs_of}
-use Rattle.screen.proofs.Numbers.{Fewer, fewer-start, fewer-next, fewer-end}
+use Rattle.screen.proofs.Numbers.{Fewer}
 use Rattle.screen.proofs.lessen.Given as goal
 
 abbrev pub invariant-loop-i : goal.invariant-loop-i

@@ -1,11 +1,9 @@
 -- `screen::mark` meets its contract. The invariant: reception i and those below j are compared (`Marked`). A failing pair puts a bit into
 -- the rows of both (`marked-fails`), any other changes nothing (`marked-passes`). Assumes nothing.
 use mathlib.Core.Path.{◌≡◌}
-use Prim.Native.Nat.{◌-◌, ◌≤◌}
 use native.Mathlib.Omega.{arith}
-use lib.ListN.{length, length-set}
-use borrow.Author.Rules.{rules}
-use Rattle.screen.proofs.Rows.{Marked, marked_start, marked-passes, marked-fails, marked-end}
+use lib.ListN.{length-set}
+use Rattle.screen.proofs.Rows.{marked_start, marked-passes, marked-fails, marked-end}
 use Rattle.screen.proofs.mark.Goals as goal
 use Rattle.screen.proofs.mark.Goals.{then-clash, else-clash}
 
@@ -26,8 +24,8 @@ loop-j-preserved c =
       ],
       elim c.if-clash.branch [
         | then-clash w ↦
-          rw w.rows-is
-          (fails at.rows w.joined.result w.joined-then-clash.result (omega arith) w.if-clash.true w.joined.ensures.0 w.joined-then-clash.ensures.0 at.invariant.2)
+            rw w.rows-is
+            (fails at.rows w.joined.result w.joined-then-clash.result (omega arith) w.if-clash.true w.joined.ensures.0 w.joined-then-clash.ensures.0 at.invariant.2)
         | else-clash w ↦ rw w.rows-is (passes at.rows w.if-clash.false at.invariant.2)
       ],
     )

@@ -1,12 +1,9 @@
 -- `screen::mark` meets its contract. The invariant: reception i and those below j are compared (`Marked`). A failing pair puts a bit into
 -- the rows of both (`marked-fails`), any other changes nothing (`marked-passes`). Assumes nothing.
 use mathlib.Core.Path.{◌≡◌}
-use mathlib.Core.Logic.{⊎_elim}
 use Prim.Native.Nat.{◌-◌, ◌≤◌}
-use native.Mathlib.Omega.{arith}
-use lib.ListN.{length, length-set}
-use borrow.Author.Rules.{rules}
-use Rattle.screen.proofs.Rows.{Marked, marked_start, marked-passes, marked-fails, marked-end}
+use lib.ListN.{length}
+use Rattle.screen.proofs.Rows.{Marked}
 use Rattle.screen.proofs.mark.Given as goal
 
 abbrev pub invariant-loop-j : goal.invariant-loop-j

@@ -1,11 +1,10 @@
 -- `screen::most_clashing` meets its contract. The invariant: `worst` is the choice among those below i, `most` its number (`Best`).
 -- Assumes nothing.
 use mathlib.Core.Path.{◌≡◌, refl}
-use Prim.Native.Nat.{ℕ, ◌-◌, ◌≤◌}
+use Prim.Native.Nat.{ℕ}
 use native.Mathlib.Omega.{arith}
 use lib.ListN.{get_or}
-use borrow.Author.Rules.{rules}
-use Rattle.screen.proofs.Search.{Best, best-start, best_takes, best-leaves, best-end}
+use Rattle.screen.proofs.Search.{best-start, best_takes, best-leaves, best-end}
 use Rattle.screen.proofs.most_clashing.Goals as goal
 use Rattle.screen.proofs.most_clashing.Goals.{then-most-count, else-most-count}
 
@@ -19,11 +18,11 @@ loop-i-preserved c =
       omega arith,
       elim c.if-most-count.branch [
         | then-most-count w ↦
-          rw (w.worst-is, w.most-is)
-          (best_takes counts at.i at.worst at.most (counts at.i) (omega arith) refl at.invariant.1 w.if-most-count.true)
+            rw (w.worst-is, w.most-is)
+            (best_takes counts at.i at.worst at.most (counts at.i) (omega arith) refl at.invariant.1 w.if-most-count.true)
         | else-most-count w ↦
-          rw (w.worst-is, w.most-is)
-          (best-leaves counts at.i at.worst at.most (counts at.i) (omega arith) refl at.invariant.1 w.if-most-count.false)
+            rw (w.worst-is, w.most-is)
+            (best-leaves counts at.i at.worst at.most (counts at.i) (omega arith) refl at.invariant.1 w.if-most-count.false)
       ],
     )
 

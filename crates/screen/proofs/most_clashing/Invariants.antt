@@ -1,12 +1,8 @@
 -- `screen::most_clashing` meets its contract. The invariant: `worst` is the choice among those below i, `most` its number (`Best`).
 -- Assumes nothing.
-use mathlib.Core.Path.{◌≡◌, refl}
-use mathlib.Core.Logic.{⊎_elim}
 use Prim.Native.Nat.{ℕ, ◌-◌, ◌≤◌}
-use native.Mathlib.Omega.{arith}
 use lib.ListN.{get_or}
-use borrow.Author.Rules.{rules}
-use Rattle.screen.proofs.Search.{Best, best-start, best_takes, best-leaves, best-end}
+use Rattle.screen.proofs.Search.{Best}
 use Rattle.screen.proofs.most_clashing.Given as goal
 
 abbrev pub invariant-loop-i : goal.invariant-loop-i

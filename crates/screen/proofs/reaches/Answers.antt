@@ -1,9 +1,8 @@
 -- `screen::reaches` meets its contract: the squares decide (`root-reaches`) where they fit a word (`all-below`); elsewhere the baseline is at least
 -- what one axis spans (`axis-reaches`), and where none spans enough the squares fit two words. Assumes nothing.
 use mathlib.Core.Path.{◌∙◌}
-use Prim.Native.Nat.{ℕ, ◌+◌, ◌*◌, ◌^◌, ◌≤◌, ◌<◌}
+use Prim.Native.Nat.{ℕ, ◌*◌, ◌^◌, ◌≤◌}
 use native.Mathlib.Omega.{arith}
-use borrow.Author.Rules.{rules}
 use Rattle.wide.proofs.Words.{value-of}
 use Rattle.screen.proofs.Reach.{all-below, small-square, axis-reaches, root-reaches, squares-fit}
 use Rattle.screen.proofs.reaches.Goals as goal

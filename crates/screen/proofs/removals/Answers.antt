@@ -1,17 +1,15 @@
 -- `screen::removals` meets its contract. The invariant: the state is that after `turn` steps (`held_to`), `worst` is the one that its numbers
 -- choose, and what is written down is of these turns (`Recorded`). Assumes nothing.
 use mathlib.Core.Path.{◌≡◌, refl, sym, ap, ◌∙◌}
-use Prim.Native.Nat.{◌-◌, ◌^◌, ◌≤◌, ◌<◌}
 use native.Mathlib.Numerals.{add-one}
 use native.Mathlib.Omega.{arith}
 use lib.ListN.{length, length-set}
 use borrow.Author.Rules.{rules}
-use Rattle.sets.specs.Held.{index_of}
-use Rattle.screen.specs.Held.{pairs_of, numbers_of, held_by}
-use Rattle.screen.specs.State.{most_clashing, held_to}
+use Rattle.screen.specs.Held.{pairs_of, held_by}
+use Rattle.screen.specs.State.{held_to}
 use Rattle.screen.proofs.Rows.{zeros}
 use Rattle.screen.proofs.Search.{held-alive, none-goes, leaving}
-use Rattle.screen.proofs.Recorded.{Recorded, recorded-start, recorded-next, recorded-end}
+use Rattle.screen.proofs.Recorded.{recorded-start, recorded-next, recorded-end}
 use Rattle.screen.proofs.removals.Goals as goal
 
 pub loop-worst-init : goal.loop-worst-init

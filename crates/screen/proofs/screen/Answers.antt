@@ -1,5 +1,4 @@
 -- `screen::screen` meets its contract: the rows that the removals take stand for the failing pairs. Assumes nothing.
-use borrow.Author.Rules.{rules}
 use Rattle.screen.proofs.screen.Goals as goal
 
 pub returns : goal.returns

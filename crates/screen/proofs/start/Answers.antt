@@ -1,12 +1,10 @@
 -- `screen::start` meets its contract. The invariant: the numbers of those below i are stored (`Filled`). Assumes nothing.
 use mathlib.Core.Path.{◌≡◌, refl}
-use Prim.Native.Nat.{◌-◌, ◌≤◌}
 use native.Mathlib.Omega.{arith}
-use lib.ListN.{length, length-set}
-use borrow.Author.Rules.{rules}
+use lib.ListN.{length-set}
 use Rattle.screen.specs.Held.{pairs_of}
 use Rattle.screen.specs.State.{start}
-use Rattle.screen.proofs.Numbers.{Filled, filled-start, filled_next, first_count, start-held}
+use Rattle.screen.proofs.Numbers.{filled-start, filled_next, first_count, start-held}
 use Rattle.screen.proofs.start.Goals as goal
 
 pub loop-i-init : goal.loop-i-init

@@ -1,12 +1,10 @@
 -- `screen::start` meets its contract. The invariant: the numbers of those below i are stored (`Filled`). Assumes nothing.
-use mathlib.Core.Path.{◌≡◌, refl}
+use mathlib.Core.Path.{◌≡◌}
 use Prim.Native.Nat.{◌-◌, ◌≤◌}
-use native.Mathlib.Omega.{arith}
-use lib.ListN.{length, length-set}
-use borrow.Author.Rules.{rules}
+use lib.ListN.{length}
 use Rattle.screen.specs.Held.{pairs_of}
 use Rattle.screen.specs.State.{start}
-use Rattle.screen.proofs.Numbers.{Filled, filled-start, filled_next, first_count, start-held}
+use Rattle.screen.proofs.Numbers.{Filled}
 use Rattle.screen.proofs.start.Given as goal
 
 abbrev pub invariant-loop-i : goal.invariant-loop-i

@@ -1,5 +1,4 @@
 -- `words::f64_at` meets its contract: it reads the bits of the word. Assumes nothing.
-use borrow.Author.Rules.{rules}
 use Rattle.words.specs.Words.{f64_at}
 use Rattle.words.proofs.f64_at.Goals as goal
 

@@ -1,6 +1,5 @@
 -- `words::i32_at` meets its contract: from the sign on, the number is -1 less what the word lacks of its greatest value (`negative`). Assumes
 -- nothing.
-use borrow.Author.Rules.{rules}
 use mathlib.Core.Path.{refl, ◌∙◌}
 use Prim.Native.Nat.{◌-◌}
 use native.Mathlib.Omega.{arith}

@@ -1,5 +1,4 @@
 -- `words::pair_at` meets its contract: its two bytes are the word. Assumes nothing.
-use borrow.Author.Rules.{rules}
 use native.Mathlib.Omega.{arith}
 use Rattle.words.specs.Words.{word_at}
 use Rattle.words.proofs.pair_at.Goals as goal

@@ -1,5 +1,4 @@
 -- `words::put_f64` meets its contract: it writes the bits of x. Assumes nothing.
-use borrow.Author.Rules.{rules}
 use Rattle.words.specs.Words.{put_f64}
 use Rattle.words.proofs.put_f64.Goals as goal
 

@@ -1,5 +1,4 @@
 -- `words::put_i64` meets its contract: it writes the bits of two's complement. Assumes nothing.
-use borrow.Author.Rules.{rules}
 use mir.Syntax.{w64}
 use mir.ValLaws.{to_z-of_z}
 use Rattle.words.specs.Words.{put_i64}

@@ -1,5 +1,4 @@
 -- `words::put_u16` meets its contract: two bytes are written, the lower first. Assumes nothing.
-use borrow.Author.Rules.{rules}
 use mathlib.Core.Path.{◌≡◌}
 use Prim.Native.Nat.{◌/◌, ◌%◌}
 use native.Mathlib.Omega.{arith}

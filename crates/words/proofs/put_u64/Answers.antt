@@ -1,5 +1,4 @@
 -- `words::put_u64` meets its contract: its halves are the parts of the word (`write-parts`). Assumes nothing.
-use borrow.Author.Rules.{rules}
 use mathlib.Core.Path.{sym, ◌∙◌}
 use Rattle.words.specs.Words.{put_u32, put_u64}
 use Rattle.words.proofs.Halves.{write-parts}

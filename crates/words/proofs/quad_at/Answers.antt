@@ -1,5 +1,4 @@
 -- `words::quad_at` meets its contract: its halves are the parts of the word (`read-parts`). Assumes nothing.
-use borrow.Author.Rules.{rules}
 use native.Mathlib.Omega.{arith}
 use Rattle.words.proofs.Halves.{read-parts}
 use Rattle.words.proofs.quad_at.Goals as goal

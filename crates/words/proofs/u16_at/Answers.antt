@@ -1,5 +1,4 @@
 -- `words::u16_at` meets its contract: it is the pair, which fits. Assumes nothing.
-use borrow.Author.Rules.{rules}
 use Rattle.words.specs.Words.{u16_at}
 use Rattle.words.proofs.u16_at.Goals as goal
 

@@ -1,5 +1,4 @@
 -- `words::u32_at` meets its contract: it is the quad, which fits. Assumes nothing.
-use borrow.Author.Rules.{rules}
 use Rattle.words.specs.Words.{u32_at}
 use Rattle.words.proofs.u32_at.Goals as goal
 

@@ -1,5 +1,4 @@
 -- `words::u64_at` meets its contract: its halves are the parts of the word (`read-parts`). Assumes nothing.
-use borrow.Author.Rules.{rules}
 use native.Mathlib.Omega.{arith}
 use Rattle.words.specs.Words.{u64_at}
 use Rattle.words.proofs.Halves.{read-parts}

@@ -1,5 +1,4 @@
 -- `inputs::domain::between` meets its contract: its numbers are i64, so they come back from their bits (`to_z-of_z`). Assumes nothing.
-use borrow.Author.Rules.{rules}
 use mir.Syntax.{w64}
 use mir.ValLaws.{to_z-of_z}
 use Rattle.inputs.proofs.domain.between.Goals as goal

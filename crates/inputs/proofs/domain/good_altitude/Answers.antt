@@ -1,6 +1,5 @@
 -- `inputs::domain::good_altitude` meets its contract: each return is one side of the definition's test on the kind (`barometric`, `gnss`). Assumes
 -- nothing.
-use borrow.Author.Rules.{rules}
 use mathlib.Core.Path.{◌≡◌, refl, ◌∙◌}
 use mathlib.Core.Bool.{Bool, true, false, ◌&&◌, ◌||◌}
 use borrow.Author.Tests.{ne_eqb}

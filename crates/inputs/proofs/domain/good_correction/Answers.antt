@@ -1,5 +1,4 @@
 -- `inputs::domain::good_correction` meets its contract: a correction is an i32, so it comes back from its bits (`to_z-of_z`). Assumes nothing.
-use borrow.Author.Rules.{rules}
 use mir.Syntax.{w32}
 use mir.ValLaws.{to_z-of_z}
 use Rattle.inputs.proofs.domain.good_correction.Goals as goal

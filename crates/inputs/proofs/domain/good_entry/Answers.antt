@@ -1,5 +1,4 @@
 -- `inputs::domain::good_entry` meets its contract: each return is one side of the definition's test. Assumes nothing.
-use borrow.Author.Rules.{rules}
 use mathlib.Core.Path.{◌∙◌}
 use borrow.Author.Tests.{eq-eqb, ne_eqb}
 use Rattle.inputs.specs.Domain.{good_entry}

@@ -1,5 +1,4 @@
 -- `inputs::domain::good_reception` meets its contract: a test for each field. Assumes nothing.
-use borrow.Author.Rules.{rules}
 use mathlib.Core.Path.{◌∙◌}
 use mir.Syntax.{w64}
 use mir.ValLaws.{to_z-of_z}

@@ -16,7 +16,7 @@ returns c =
       c.good_coordinate.ensures,
       c.good_coordinate-2.ensures,
       c.good_coordinate-3.ensures,
-      to_z-of_z w64 (get_or site 0 (pos 0)) (record { sfits = c.good_coordinate-arg-1.given }),
-      to_z-of_z w64 (get_or site 1 (pos 0)) (record { sfits = c.good_coordinate-arg-2-1.given }),
-      to_z-of_z w64 (get_or site 2 (pos 0)) (record { sfits = c.good_coordinate-arg-3-1.given }),
+      to_z-of_z w64 (get_or site 0 (pos 0)) (record { sfits = search rules }),
+      to_z-of_z w64 (get_or site 1 (pos 0)) (record { sfits = search rules }),
+      to_z-of_z w64 (get_or site 2 (pos 0)) (record { sfits = search rules }),
     )

@@ -1,5 +1,4 @@
 -- `reader::fields::content_at` meets its contract: a refusal shows three numbers, a fix all fields of the table (`content-fields`). Assumes nothing.
-use borrow.Author.Rules.{rules}
 use native.Mathlib.Omega.{arith}
 use mathlib.Core.Path.{sym, ◌∙◌}
 use Rattle.reader.proofs.Tests.{metres-finite, fix-meets}

@@ -1,5 +1,4 @@
 -- `reader::fields::fix_at` meets its contract. Each field is the one of the table (`fix-fields`); each float is finite by its rule. Assumes nothing.
-use borrow.Author.Rules.{rules}
 use native.Mathlib.Omega.{arith}
 use lib.Dec.{lit<, lit≤}
 use mir.Syntax.{w64}

@@ -1,5 +1,4 @@
 -- `reader::fields::number_at` meets its contract: the bits are those of no not-a-number (`finite-pattern`). Assumes nothing.
-use borrow.Author.Rules.{rules}
 use Rattle.words.specs.Words.{f64_at}
 use Rattle.reader.proofs.Copied.{finite-pattern}
 use Rattle.reader.proofs.fields.number_at.Goals as goal

@@ -1,5 +1,4 @@
 -- `reader::fields::three_at` meets its contract: three numbers in turn. Assumes nothing.
-use borrow.Author.Rules.{rules}
 use Prim.Native.Nat.{◌+◌}
 use mathlib.Core.Path.{◌≡◌}
 use native.Mathlib.Omega.{arith}

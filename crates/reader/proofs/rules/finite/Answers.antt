@@ -1,7 +1,5 @@
 -- `reader::rules::finite` meets its contract. After i turns the answer is that of the first i numbers. Assumes nothing.
-use borrow.Author.Rules.{rules}
 use Rattle.words.specs.Words.{f64_at}
-use Prim.Native.Nat.{◌≤◌, ◌-◌}
 use mathlib.Core.Path.{◌≡◌, refl}
 use native.Mathlib.Omega.{arith}
 use native.Mathlib.Numerals.{add-one}

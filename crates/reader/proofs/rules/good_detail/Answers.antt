@@ -1,5 +1,4 @@
 -- `reader::rules::good_detail` meets its contract. Each return is a case of the definition. Assumes nothing.
-use borrow.Author.Rules.{rules}
 use borrow.Author.Tests.{eq-eqb, ne_eqb}
 use Rattle.reader.specs.Tests.{good_detail}
 use Rattle.reader.proofs.rules.good_detail.Goals as goal

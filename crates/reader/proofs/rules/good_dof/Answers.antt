@@ -1,5 +1,4 @@
 -- `reader::rules::good_dof` meets its contract. Either return is a case of the definition. Assumes nothing.
-use borrow.Author.Rules.{rules}
 use borrow.Author.Tests.{eq-eqb, ne_eqb}
 use Rattle.reader.specs.Tests.{good_dof}
 use Rattle.reader.proofs.rules.good_dof.Goals as goal

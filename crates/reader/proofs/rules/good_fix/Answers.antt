@@ -1,5 +1,4 @@
 -- `reader::rules::good_fix` meets its contract. The answers to the single rules make the answer (`fix-rules`). Assumes nothing.
-use borrow.Author.Rules.{rules}
 use Rattle.reader.proofs.Assembled.{many, fix-rules}
 use Rattle.reader.proofs.rules.good_fix.Goals as goal
 

@@ -1,5 +1,4 @@
 -- `reader::rules::good_floats` meets its contract. By the definition. Assumes nothing.
-use borrow.Author.Rules.{rules}
 use Rattle.reader.specs.Tests.{good_floats}
 use Rattle.reader.proofs.rules.good_floats.Goals as goal
 

@@ -1,5 +1,4 @@
 -- `reader::rules::good_mask` meets its contract. Bit n of a u64 is 2 to the n. Assumes nothing.
-use borrow.Author.Rules.{rules}
 use Prim.Native.Nat.{◌^◌, ◌*◌, ◌%◌, ◌<◌}
 use mathlib.Core.Path.{◌≡◌}
 use native.Mathlib.Omega.{arith}

@@ -1,5 +1,4 @@
 -- `reader::rules::good_metres` meets its contract. By the definition. Assumes nothing.
-use borrow.Author.Rules.{rules}
 use Rattle.reader.specs.Tests.{good_metres}
 use Rattle.reader.proofs.rules.good_metres.Goals as goal
 

@@ -1,5 +1,4 @@
 -- `reader::rules::good_refusal` meets its contract. The rules' answers make the definition's (`refusal-rules`). Assumes nothing.
-use borrow.Author.Rules.{rules}
 use Rattle.reader.proofs.Assembled.{refusal-rules}
 use Rattle.reader.proofs.rules.good_refusal.Goals as goal
 

@@ -1,5 +1,4 @@
 -- `reader::rules::meets_rules` meets its contract. Either return is a case of the definition. Assumes nothing.
-use borrow.Author.Rules.{rules}
 use borrow.Author.Tests.{eq-eqb, ne_eqb}
 use mathlib.Core.Path.{sym, ◌∙◌}
 use Rattle.words.specs.Words.{u32_at}

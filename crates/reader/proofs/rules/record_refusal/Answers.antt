@@ -1,5 +1,4 @@
 -- `reader::rules::record_refusal` meets its contract. Each return is a case of the definition. Assumes nothing.
-use borrow.Author.Rules.{rules}
 use borrow.Author.Tests.{eq-eqb, ne_eqb}
 use Rattle.reader.specs.Read.{read_of}
 use Rattle.reader.proofs.rules.record_refusal.Goals as goal

@@ -1,6 +1,4 @@
 -- `reader::rules::zeros` meets its contract. After i turns the answer is that of the first i bytes. Assumes nothing.
-use borrow.Author.Rules.{rules}
-use Prim.Native.Nat.{◌≤◌, ◌-◌}
 use mathlib.Core.Path.{◌≡◌, refl}
 use native.Mathlib.Omega.{arith}
 use native.Mathlib.Numerals.{add-one}

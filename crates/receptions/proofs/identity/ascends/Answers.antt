@@ -1,5 +1,4 @@
 -- `receptions::identity::ascends` meets its contract: the first has none before it; any other is compared with that one. Assumes nothing.
-use borrow.Author.Rules.{rules}
 use mathlib.Core.Path.{◌∙◌}
 use borrow.Author.Tests.{eq-eqb, ne_eqb}
 use Rattle.receptions.proofs.identity.ascends.Goals as goal

@@ -1,5 +1,4 @@
 -- `receptions::identity::before` meets its contract: by the cases of the comparison. Assumes nothing.
-use borrow.Author.Rules.{rules}
 use Rattle.receptions.specs.Identities.{before}
 use Rattle.receptions.proofs.identity.before.Goals as goal
 

@@ -1,5 +1,4 @@
 -- `receptions::identity::compare` meets its contract: field by field, in turn. Assumes nothing.
-use borrow.Author.Rules.{rules}
 use Rattle.receptions.specs.Identities.{compare}
 use Rattle.receptions.proofs.identity.compare.Goals as goal
 

@@ -1,10 +1,8 @@
 -- `receptions::identity::compare_bytes` meets its contract: the bytes before k agree, and the first two that differ decide (`bytes-differ`).
 -- Assumes nothing.
-use borrow.Author.Rules.{rules}
 use mathlib.Core.Path.{sym, ◌∙◌}
-use Prim.Native.Nat.{◌-◌, ◌≤◌}
 use native.Mathlib.Omega.{arith}
-use Rattle.receptions.proofs.Bytes.{Agree, agree-next, bytes-differ, bytes-alike}
+use Rattle.receptions.proofs.Bytes.{agree-next, bytes-differ, bytes-alike}
 use Rattle.receptions.proofs.identity.compare_bytes.Goals as goal
 
 pub loop-k-init : goal.loop-k-init

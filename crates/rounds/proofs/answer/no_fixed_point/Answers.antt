@@ -1,5 +1,4 @@
 -- `rounds::answer::no_fixed_point` meets its contract: beside it stands no fix. Assumes nothing.
-use Rattle.std.proofs.Common.{rules}
 use Rattle.rounds.proofs.answer.no_fixed_point.Goals as goal
 
 pub returns : goal.returns

@@ -1,5 +1,5 @@
 -- `rounds::answer::of_finished` meets its contract: by whether there is a fix. Assumes nothing.
-use Rattle.std.proofs.Common.{true, false, ap, ◌∙◌, rules}
+use Rattle.std.proofs.Common.{true, false, ap, ◌∙◌}
 use Rattle.best.specs.Best.{Outcome}
 use Rattle.record.specs.declared.content.Fix.{Fix}
 use Rattle.rounds.specs.declared.answer.Answer.{Answer}

@@ -1,5 +1,4 @@
 -- `rounds::answer::refused` meets its contract: beside the refusal stands no fix. Assumes nothing.
-use Rattle.std.proofs.Common.{rules}
 use Rattle.rounds.proofs.answer.refused.Goals as goal
 
 pub returns : goal.returns

@@ -1,5 +1,4 @@
 -- `rounds::finish::certain` meets its contract: the variances first, then the Cholesky's verdict. Assumes nothing.
-use Rattle.std.proofs.Common.{rules}
 use Rattle.rounds.specs.Finish.{certain}
 use Rattle.rounds.proofs.Certainty.{definite-verdict}
 use Rattle.rounds.proofs.finish.certain.Goals as goal

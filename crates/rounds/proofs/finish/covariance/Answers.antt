@@ -1,5 +1,4 @@
 -- `rounds::finish::covariance` meets its contract, call by call. Assumes nothing.
-use Rattle.std.proofs.Common.{rules}
 use Rattle.rounds.proofs.finish.covariance.Goals as goal
 
 pub returns : goal.returns

@@ -1,5 +1,4 @@
 -- `rounds::finish::factor` meets its contract, by its one call. Assumes nothing.
-use Rattle.std.proofs.Common.{rules}
 use Rattle.rounds.proofs.finish.factor.Goals as goal
 
 pub returns : goal.returns

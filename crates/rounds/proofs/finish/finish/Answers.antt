@@ -1,5 +1,5 @@
 -- `rounds::finish::finish` meets its contract: each test picks the definition's case, in the same order. Assumes nothing.
-use Rattle.std.proofs.Common.{sym, ap, ◌∙◌, w64, rules}
+use Rattle.std.proofs.Common.{sym, ap, ◌∙◌, w64}
 use mir.ValLaws.{to_z-of_z}
 use Rattle.problem.specs.Problem.{transmit_m}
 use Rattle.rounds.specs.Finish.{transmit_ps}

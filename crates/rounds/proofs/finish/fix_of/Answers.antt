@@ -1,5 +1,5 @@
 -- `rounds::finish::fix_of` meets its contract: the fields one by one, with the position that it is given. Assumes nothing.
-use Rattle.std.proofs.Common.{w64, rules}
+use Rattle.std.proofs.Common.{w64}
 use mir.ValLaws.{to_z-of_z}
 use Rattle.rounds.proofs.finish.fix_of.Goals as goal
 

@@ -1,5 +1,4 @@
 -- `rounds::finish::wide` meets its contract: the three tests, one after the other. Assumes nothing.
-use Rattle.std.proofs.Common.{rules}
 use Rattle.rounds.specs.Finish.{wide, max_variance_m2}
 use Rattle.rounds.proofs.Certainty.{most}
 use Rattle.rounds.proofs.finish.wide.Goals as goal

@@ -1,5 +1,4 @@
 -- `rounds::finish::withheld` meets its contract: beside the refusal stands no fix. Assumes nothing.
-use Rattle.std.proofs.Common.{rules}
 use Rattle.rounds.proofs.finish.withheld.Goals as goal
 
 pub returns : goal.returns

@@ -1,8 +1,7 @@
 -- `rounds::fitting::fit_included` meets its contract. What is gathered, and the starts in their array, are those of the definition (`held-is`).
 -- Assumes nothing.
-use Rattle.std.proofs.Common.{◌∙◌, rules}
+use Rattle.std.proofs.Common.{◌∙◌}
 use Rattle.sets.specs.Mask.{has}
-use Rattle.best.specs.OfProblem.{Receptions}
 use Rattle.best.specs.Held.{receptions}
 use Rattle.rounds.proofs.Gathering.{subset-fits}
 use Rattle.rounds.proofs.Points.{starts-few, held-is}

@@ -1,5 +1,5 @@
 -- `rounds::fitting::subset` meets its contract. Call by call: the indices are below n, of which there are at most 32. Assumes nothing.
-use Rattle.std.proofs.Common.{refl, lt_of_lt_of_le, rules}
+use Rattle.std.proofs.Common.{refl, lt_of_lt_of_le}
 use Rattle.sets.specs.Mask.{has}
 use Rattle.rounds.proofs.Gathering.{few, picks}
 use Rattle.rounds.proofs.fitting.subset.Goals as goal

@@ -1,6 +1,6 @@
 -- `rounds::moment::at` meets its contract: below the half the number is -1 less the places up to it, and from there on the places past it. Assumes
 -- nothing.
-use Rattle.std.proofs.Common.{arith, rules}
+use Rattle.std.proofs.Common.{arith}
 use Rattle.rounds.proofs.Moments.{lower-fits, lower-half, upper-half}
 use Rattle.rounds.proofs.moment.at.Goals as goal
 

@@ -1,6 +1,6 @@
 -- `rounds::moment::earlier` meets its contract: the reference and the difference are told apart by their places, counted from the least i64. Assumes
 -- nothing.
-use Rattle.std.proofs.Common.{◌≡◌, ◌-◌, ◌^◌, pos, ◌+ℤ◌, ap, ◌∙◌, arith, w64, rules}
+use Rattle.std.proofs.Common.{◌≡◌, ◌-◌, ◌^◌, pos, ◌+ℤ◌, ap, ◌∙◌, arith, w64}
 use mir.ValLaws.{to_z-of_z}
 use Rattle.rounds.proofs.Moments.{place_of, read-place, earlier-held, earlier-beyond}
 use Rattle.rounds.proofs.moment.earlier.Goals as goal

@@ -1,5 +1,5 @@
 -- `rounds::moment::later` meets its contract: the reference and the sum are told apart by their places, counted from the least i64. Assumes nothing.
-use Rattle.std.proofs.Common.{◌≡◌, ◌+◌, ◌^◌, pos, ◌+ℤ◌, ap, ◌∙◌, arith, w64, rules}
+use Rattle.std.proofs.Common.{◌≡◌, ◌+◌, ◌^◌, pos, ◌+ℤ◌, ap, ◌∙◌, arith, w64}
 use mir.ValLaws.{to_z-of_z}
 use Rattle.rounds.proofs.Moments.{place_of, read-place, later-held, later-beyond}
 use Rattle.rounds.proofs.moment.later.Goals as goal

@@ -1,6 +1,6 @@
 -- `rounds::moment::transmit` meets its contract. A whole number of binary64 within the tests is cast exactly; past them, as for an infinity, the sum
 -- leaves i64 whatever the reference. Assumes nothing.
-use Rattle.std.proofs.Common.{◌≡◌, T, pos, neg_ℤ, sym, ◌∙◌, subst, w64, to_z, of_z, rules}
+use Rattle.std.proofs.Common.{T, pos, neg_ℤ, sym, ◌∙◌, subst, w64}
 use lib.Ieee.{of_bits, neg, to_unsigned}
 use mir.ValLaws.{to_z-of_z}
 use Rattle.rounds.specs.Held.{beyond}

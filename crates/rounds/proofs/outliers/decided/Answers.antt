@@ -1,6 +1,6 @@
 -- `rounds::outliers::decided` meets its contract. An index below 32 is a choice, and NONE is none (`worst-some` and its
 -- like, of Looks.antt). Assumes nothing.
-use Rattle.std.proofs.Common.{◌≡◌, ℕ, ◌^◌, ◌<◌, subst, lt_of_le_of_lt, arith, rules}
+use Rattle.std.proofs.Common.{◌≡◌, ℕ, ◌^◌, ◌<◌, subst, lt_of_le_of_lt, arith}
 use Rattle.dense.specs.Entries.{nth}
 use Rattle.sets.specs.Mask.{has}
 use Rattle.rounds.specs.declared.outliers.Turn.TheVariants.{Changes}

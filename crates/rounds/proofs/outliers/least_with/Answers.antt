@@ -1,5 +1,5 @@
 -- `rounds::outliers::least_with` meets its contract. By its two tests (`goes_in`). Assumes nothing.
-use Rattle.std.proofs.Common.{◌||◌, leb, sym, ◌∙◌, rules}
+use Rattle.std.proofs.Common.{◌||◌, leb, sym, ◌∙◌}
 use lib.Ieee.{lt, le}
 use Rattle.rounds.specs.Setting.{five}
 use Rattle.rounds.proofs.Looks.{goes_in, not-better, no-candidate}

@@ -1,6 +1,6 @@
 -- `rounds::outliers::look` meets its contract. An included reception is weighed as the worst, a left-out one as the
 -- least, another not at all (`look-included`, `look-left-out`, `look-other`). Assumes nothing.
-use Rattle.std.proofs.Common.{sym, ◌∙◌, arith, rules}
+use Rattle.std.proofs.Common.{sym, ◌∙◌, arith}
 use Rattle.sets.specs.Mask.{has}
 use Rattle.rounds.proofs.Looks.{look-included, look-left-out, look-other}
 use Rattle.rounds.proofs.outliers.look.Goals as goal

@@ -1,8 +1,7 @@
 -- `rounds::outliers::looked` meets its contract. After i turns it holds both choices among the first i. Assumes nothing.
-use Rattle.std.proofs.Common.{◌≡◌, ◌-◌, ◌≤◌, refl, arith, rules}
+use Rattle.std.proofs.Common.{◌≡◌, refl, arith}
 use Rattle.dense.specs.Entries.{nth}
 use Rattle.sets.specs.Mask.{has}
-use Rattle.rounds.specs.Looked.{looked_to}
 use Rattle.rounds.proofs.outliers.looked.Goals as goal
 
 pub loop-i-init : goal.loop-i-init

@@ -1,5 +1,5 @@
 -- `rounds::outliers::looked` meets its contract. After i turns it holds both choices among the first i. Assumes nothing.
-use Rattle.std.proofs.Common.{◌≡◌, ◌-◌, ◌≤◌, refl, arith, rules}
+use Rattle.std.proofs.Common.{◌≡◌, ◌-◌, ◌≤◌}
 use Rattle.dense.specs.Entries.{nth}
 use Rattle.sets.specs.Mask.{has}
 use Rattle.rounds.specs.Looked.{looked_to}

@@ -1,5 +1,4 @@
 -- `rounds::outliers::no_number` meets its contract. A not-a-number alone differs from itself. Assumes nothing.
-use Rattle.std.proofs.Common.{rules}
 use Rattle.rounds.proofs.Searches.{ne-nan}
 use Rattle.rounds.proofs.outliers.no_number.Goals as goal
 

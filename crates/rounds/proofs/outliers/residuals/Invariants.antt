@@ -1,13 +1,10 @@
 -- `rounds::outliers::residuals` meets its contract. After i turns the array holds the first i residuals, each by the range and the standard deviation
 -- that stand below n (`fill-at`). Assumes nothing.
-use Rattle.std.proofs.Common.{◌≡◌, ◌-◌, ◌≤◌, List, set, replicate, refl, ap, ◌∙◌, ap₂, add-one, arith, rules}
-use lib.Ieee.{Float}
-use Rattle.binary64.specs.Steps.{◌⊖◌, ◌⊘◌, nought, abs}
-use Rattle.dense.specs.Entries.{nth}
+use Rattle.std.proofs.Common.{◌≡◌, ◌-◌, ◌≤◌, replicate}
+use Rattle.binary64.specs.Steps.{nought}
 use Rattle.problem.specs.declared.Altitude.{Altitude}
 use Rattle.whitening.specs.Covariance.{sigma}
-use Rattle.whitening.specs.Whitened.{range_at, residual, fill_to}
-use Rattle.whitening.proofs.Costs.{fill-at}
+use Rattle.whitening.specs.Whitened.{range_at, fill_to}
 use Rattle.best.specs.Held.{receptions}
 use Rattle.rounds.specs.Solve.{normalised}
 use Rattle.rounds.proofs.outliers.residuals.Given as goal

@@ -1,5 +1,5 @@
 -- `rounds::outliers::unnumbered` meets its contract. None is found below i, until one is. Assumes nothing.
-use Rattle.std.proofs.Common.{◌≡◌, ◌-◌, ◌≤◌, sym, ◌∙◌, arith, rules}
+use Rattle.std.proofs.Common.{◌≡◌, sym, ◌∙◌, arith}
 use Rattle.dense.specs.Entries.{nth}
 use Rattle.sets.specs.Sets.{count}
 use Rattle.sets.specs.Mask.{has}

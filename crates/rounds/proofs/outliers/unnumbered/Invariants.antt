@@ -1,10 +1,9 @@
 -- `rounds::outliers::unnumbered` meets its contract. None is found below i, until one is. Assumes nothing.
-use Rattle.std.proofs.Common.{◌≡◌, ◌-◌, ◌≤◌, sym, ◌∙◌, arith, rules}
+use Rattle.std.proofs.Common.{◌≡◌, ◌-◌, ◌≤◌}
 use Rattle.dense.specs.Entries.{nth}
 use Rattle.sets.specs.Sets.{count}
 use Rattle.sets.specs.Mask.{has}
 use Rattle.rounds.specs.Rounds.{no_number}
-use Rattle.rounds.proofs.Searches.{none_yet, one_found, none_found}
 use Rattle.rounds.proofs.outliers.unnumbered.Given as goal
 
 abbrev pub invariant-loop-i : goal.invariant-loop-i

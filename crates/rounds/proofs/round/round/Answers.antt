@@ -1,6 +1,6 @@
 -- `rounds::round::round` meets its contract. Each test picks the definition's case, and the place and the norm are the best fit's (Turns.antt).
 -- Assumes nothing.
-use Rattle.std.proofs.Common.{◌≡◌, ℕ, List, replicate, sym, ap, ◌∙◌, arith, rules}
+use Rattle.std.proofs.Common.{◌≡◌, ℕ, List, replicate, sym, ap, ◌∙◌, arith}
 use lib.Ieee.{Float}
 use Rattle.binary64.specs.Steps.{nought}
 use Rattle.dense.specs.Entries.{nth}
@@ -8,7 +8,7 @@ use Rattle.sets.specs.Mask.{has}
 use Rattle.whitening.proofs.Costs.{fill-at}
 use Rattle.best.specs.declared.BestAt.{BestAt}
 use Rattle.best.specs.Held.{array_of, receptions}
-use Rattle.best.specs.OfProblem.{Receptions, whitener_over, chosen_over, best_fit_over}
+use Rattle.best.specs.OfProblem.{whitener_over, chosen_over, best_fit_over}
 use Rattle.rounds.specs.declared.answer.Refusal.{Refusal}
 use Rattle.rounds.specs.declared.outliers.Turn.TheVariants.{Ends, Changes, Settles}
 use Rattle.rounds.specs.declared.round.Step.{Step}

@@ -1,5 +1,5 @@
 -- `rounds::settled::dof` meets its contract: the count is at most 32, so that one more fits. Assumes nothing.
-use Rattle.std.proofs.Common.{arith, rules}
+use Rattle.std.proofs.Common.{arith}
 use Rattle.sets.specs.Mask.{has}
 use Rattle.sets.proofs.Counting.{count-le}
 use Rattle.rounds.proofs.settled.dof.Goals as goal

@@ -1,5 +1,5 @@
 -- `rounds::settled::settled` meets its contract. Each test picks the definition's case, in the same order (Late.antt). Assumes nothing.
-use Rattle.std.proofs.Common.{ℕ, ap, ◌∙◌, w64, rules}
+use Rattle.std.proofs.Common.{ℕ, ap, ◌∙◌, w64}
 use mir.ValLaws.{to_z-of_z}
 use Rattle.sets.specs.Sets.{count}
 use Rattle.sets.specs.Mask.{has}
