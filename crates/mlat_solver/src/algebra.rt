@@ -14,13 +14,7 @@ pub fn mlat_sandwich(n: usize, a: &[f64], inner: &[f64], out: &mut [f64]) -> u32
 }
 
 // R with L R = Q, for the factor l and the n rows q of `width` numbers. A factor's entry that equals 0 is passed over.
-pub fn mlat_forward_rows(
-    n: usize,
-    width: usize,
-    l: &[f64],
-    q: &[f64],
-    out: &mut [f64],
-) -> u32
+pub fn mlat_forward_rows(n: usize, width: usize, l: &[f64], q: &[f64], out: &mut [f64]) -> u32
     ensures answer { result
         ≡ calls.forward_rows_answer n width l.now q.now out.old }
     ensures output { out.new

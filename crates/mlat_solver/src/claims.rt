@@ -26,11 +26,7 @@ fn rows(nine: &[f64; 9]) -> [[f64; 3]; 3]
 }
 
 // An ECEF covariance in the local east, north, up frame at the position, row by row.
-pub fn mlat_enu_covariance(
-    position: &[f64; 3],
-    covariance: &[f64; 9],
-    enu: &mut [f64; 9],
-)
+pub fn mlat_enu_covariance(position: &[f64; 3], covariance: &[f64; 9], enu: &mut [f64; 9])
     ensures { enu.new ≡ nine_of
         (enu_covariance (geodetic_of position.now) (rows_of covariance.now)) }
 {

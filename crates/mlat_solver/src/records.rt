@@ -178,12 +178,7 @@ fn whole(words: [u32; 6], numbers: [f64; 18]) -> bool
 
 // Puts a record together again in the first 176 bytes of `out`: 14 where it is shorter, then 18 for what
 // `mlat_read_record` could not have given.
-pub fn mlat_write_record(
-    words: &[u32; 6],
-    numbers: &[f64; 18],
-    time: i64,
-    out: &mut [u8],
-) -> u32
+pub fn mlat_write_record(words: &[u32; 6], numbers: &[f64; 18], time: i64, out: &mut [u8]) -> u32
     ensures answer { result ≡ held.record_answer words.now numbers.now time
         out.old }
     ensures output { out.new

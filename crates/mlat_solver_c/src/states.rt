@@ -26,5 +26,7 @@ pub extern "C" fn mlat_why(
         receptions.now clock.now altitude.now reference.now present)
         states.old detail.old }
 {
-    mlat_solver::mlat_why(receptions, clock, altitude, reference, present, states, detail)
+    mlat_solver::mlat_why(
+        receptions, clock, altitude, reference, present, states, detail,
+    )
 }

@@ -27,7 +27,7 @@ put_four-requires-then-fitting c =
 pub put_two-requires : goal.put_two-requires
 put_two-requires c =
     let h = kept _ _ _ _ c.put_four-then-fitting.ensures
-        (kept _ _ _ _ c.put_four.ensures (ten-long _ _ (sym c.fitting.ensures ∙ c.if-fitting.true))) in omega arith
+    (kept _ _ _ _ c.put_four.ensures (ten-long _ _ (sym c.fitting.ensures ∙ c.if-fitting.true))) in omega arith
 
 pub returns-then-fitting : goal.returns-then-fitting
 returns-then-fitting c =

@@ -28,7 +28,7 @@ loop-k-preserved c =
     let at = c.loop-k in (
       omega arith,
       elim c.if-near_at.branch [
-        then-near_at w ↦ added _ _ at.k at.count at.places (sym c.near_at.ensures ∙ w.if-near_at.true) w.count-is w.places-is at.invariant.1
+        | then-near_at w ↦ added _ _ at.k at.count at.places (sym c.near_at.ensures ∙ w.if-near_at.true) w.count-is w.places-is at.invariant.1
         | else-near_at w ↦ skipped _ _ at.k at.count at.places (sym c.near_at.ensures ∙ w.if-near_at.false) w.count-is w.places-is at.invariant.1
       ],
     )

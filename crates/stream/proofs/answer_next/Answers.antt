@@ -10,11 +10,11 @@ returns-then-out-lt-RECORD c =
 pub returns-then-first : goal.returns-then-first
 returns-then-first c =
     let all = answer-whole c.args.stream.now c.args.out.now c.args.used.now _ _ c.if-out-lt-RECORD.false
-        c.solve_next-first.ensures.outcome c.solve_next-first.ensures.output c.if-first.true in
+    c.solve_next-first.ensures.outcome c.solve_next-first.ensures.output c.if-first.true in
     record { answer = all.0; output = all.1.0; used = all.1.1 }
 
 pub returns : goal.returns
 returns c =
     let all = answer-torn c.args.stream.now c.args.out.now c.args.used.now _ _ c.if-out-lt-RECORD.false
-        c.solve_next-first.ensures.outcome c.solve_next-first.ensures.output c.if-first.false in
+    c.solve_next-first.ensures.outcome c.solve_next-first.ensures.output c.if-first.false in
     record { answer = all.0; output = all.1.0; used = all.1.1 }

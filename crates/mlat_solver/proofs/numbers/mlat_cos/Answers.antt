@@ -5,6 +5,6 @@ use Rattle.mlat_solver.proofs.numbers.mlat_cos.Goals as goal
 
 pub returns : goal.returns
 returns c = record {
-      value = c.cos.ensures;
-      meaning = cosine _ c.well_formed.0.1 _ c.cos.ensures;
-    }
+  value = c.cos.ensures;
+  meaning = cosine _ c.well_formed.0.1 _ c.cos.ensures;
+}

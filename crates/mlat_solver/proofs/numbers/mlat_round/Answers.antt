@@ -5,6 +5,6 @@ use Rattle.mlat_solver.proofs.numbers.mlat_round.Goals as goal
 
 pub returns : goal.returns
 returns c = record {
-      value = c.round.ensures;
-      meaning = is-rounded _ _ c.well_formed.0.1 c.round.ensures;
-    }
+  value = c.round.ensures;
+  meaning = is-rounded _ _ c.well_formed.0.1 c.round.ensures;
+}

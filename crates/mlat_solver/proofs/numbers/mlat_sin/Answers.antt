@@ -5,6 +5,6 @@ use Rattle.mlat_solver.proofs.numbers.mlat_sin.Goals as goal
 
 pub returns : goal.returns
 returns c = record {
-      value = c.sin.ensures;
-      meaning = sine _ c.well_formed.0.1 _ c.sin.ensures;
-    }
+  value = c.sin.ensures;
+  meaning = sine _ c.well_formed.0.1 _ c.sin.ensures;
+}

@@ -6,6 +6,6 @@ use Rattle.mlat_solver.proofs.numbers.mlat_sincos.Goals as goal
 
 pub returns : goal.returns
 returns c = let e = c.sincos_into.ensures in record {
-      value = e;
-      meaning = pair _ c.well_formed.0.1 _ e;
-    }
+  value = e;
+  meaning = pair _ c.well_formed.0.1 _ e;
+}

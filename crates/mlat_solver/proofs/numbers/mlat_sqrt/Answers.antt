@@ -5,6 +5,6 @@ use Rattle.mlat_solver.proofs.numbers.mlat_sqrt.Goals as goal
 
 pub returns : goal.returns
 returns c = record {
-      value = c.sqrt.ensures;
-      meaning = is-root _ _ c.well_formed.0.1 c.sqrt.ensures;
-    }
+  value = c.sqrt.ensures;
+  meaning = is-root _ _ c.well_formed.0.1 c.sqrt.ensures;
+}
