@@ -7,8 +7,8 @@
 // and its distance. A file or a query that is turned away is said on standard error, and then nothing is written; so
 // are other arguments, and an output that fails.
 //
-// The file is read block by block, for the language has no heap: each block is whole records, but for the last of a
-// torn file, and what is found in a block is found by `near`.
+// The file is read block by block: each block is whole records, but for the last of a torn file, and what is found in a
+// block is found by `near`.
 #![tactic(auto)]
 
 mod decimals;

@@ -36,9 +36,9 @@ module _ (sites z : List Float) where
 
   -- the start at a place's latitude and longitude, and at this height
   unfoldable pub lifted : ℕ → Geodetic → Float → List Float
-  lifted k ground height = timed k (to_ecef (record {
-    lat_deg = ground.lat_deg;
-    lon_deg = ground.lon_deg;
+  lifted k surface height = timed k (to_ecef (record {
+    lat_deg = surface.lat_deg;
+    lon_deg = surface.lon_deg;
     height_m = height;
   }))
 

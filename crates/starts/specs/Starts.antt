@@ -19,10 +19,10 @@ start_height (Gnss metres) = metres
 -- and the ring. Document 01: "the ring is due only under four".
 unfoldable pub starts : List Float → List Float → ℕ → Altitude → List (List Float)
 starts sites z k altitude =
-    let middle = centroid sites k in let ground = from_ecef middle in
-    let height = start_height altitude in let above = lifted sites z k ground height in
+    let middle = centroid sites k in let surface = from_ecef middle in
+    let height = start_height altitude in let above = lifted sites z k surface height in
     cond (nat_le 4 k) (bancroft sites z k middle ++ (above ∷ []))
-    (above ∷ ring sites z k height middle (enu_basis ground.lat_deg ground.lon_deg))
+    (above ∷ ring sites z k height middle (enu_basis surface.lat_deg surface.lon_deg))
 
 -- the starts of a round: the last round's parameters come first (`vec![params]`), where it had any
 unfoldable pub starts_after : Bool → List Float → List Float → List Float → ℕ → Altitude → List (List Float)

@@ -59,13 +59,19 @@ fn timed(sites: &[f64; 96], z: &[f64; 32], k: usize, x: [f64; 3]) -> [f64; 4]
 }
 
 // The start at a place's latitude and longitude, and at this height.
-pub fn lifted(sites: &[f64; 96], z: &[f64; 32], k: usize, ground: Geodetic, height: f64) -> [f64; 4]
+pub fn lifted(
+    sites: &[f64; 96],
+    z: &[f64; 32],
+    k: usize,
+    surface: Geodetic,
+    height: f64,
+) -> [f64; 4]
     requires { k ≤ 32 }
-    ensures { result ≡ lifted sites.now z.now k ground height }
+    ensures { result ≡ lifted sites.now z.now k surface height }
 {
     let x = geo::to_ecef(Geodetic {
-        lat_deg: ground.lat_deg,
-        lon_deg: ground.lon_deg,
+        lat_deg: surface.lat_deg,
+        lon_deg: surface.lon_deg,
         height_m: height,
     });
     timed(sites, z, k, x)

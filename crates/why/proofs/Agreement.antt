@@ -23,7 +23,6 @@ use Rattle.rounds.specs.Setting.{Answer, fix, refused, no_fixed_point}
 use Rattle.rounds.specs.Solve.{refusal_number, refusal_detail, solve_problem}
 use Rattle.rounds.specs.Demand.{used_by}
 use Rattle.entry.specs.Reply.{answered, replied, reply}
-use Rattle.why.specs.declared.State.{State}
 use Rattle.why.specs.declared.State.TheVariants.{Used, Removed, LeftOut}
 use Rattle.why.specs.States.{clashing, residual_at, state_of, number_of}
 use Rattle.why.specs.Why.{verdict_of, states_of, verdict_by, states_by, verdict, states}

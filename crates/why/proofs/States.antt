@@ -1,13 +1,12 @@
 -- Of every reception of a solved problem one state holds, which is given: the statement of specs/Meaning.antt. What a used
 -- reception is and a left out one rests on demand 3 (`Found`), what a removed one is on the screen's turns. Assumes nothing.
-use mathlib.Core.Path.{◌≡◌, refl, sym, ap, subst, ◌∙◌}
-use mathlib.Core.Logic.{◌⊎◌, inl, inr, ◌↔◌}
+use mathlib.Core.Path.{◌≡◌, refl, sym, subst, ◌∙◌}
+use mathlib.Core.Logic.{◌⊎◌, inl, inr}
 use mathlib.Core.Bool.{Bool, true, false, not, cond}
 use Prim.Native.Nat.{ℕ, ◌≤◌, ◌<◌}
 use native.Mathlib.Omega.{arith}
 use borrow.Author.Tests.{lt-ltb, ltb-true}
 use lib.Dec.{T, ltb}
-use lib.Ieee.{Float}
 use Rattle.sets.proofs.Tests.{either, T→eq, F→eq, eq→T, eq→F}
 use Rattle.screen.specs.Turns.{turn_of, clash_of}
 use Rattle.screen.proofs.Turns.{turn-is-of-removal, removed-or-kept}
@@ -19,7 +18,7 @@ use Rattle.rounds.specs.Demand.{Fixed, rounds, remaining, used_by, Found}
 use Rattle.rounds.proofs.Found.{demand-met}
 use Rattle.why.specs.declared.State.{State}
 use Rattle.why.specs.declared.State.TheVariants.{Used, Removed, LeftOut}
-use Rattle.why.specs.States.{clashing, residual_at, state_by, state_of}
+use Rattle.why.specs.States.{clashing, residual_at, state_of}
 use Rattle.why.specs.Meaning.{Holds, used, removed, left_out, OneStateHolds}
 
 not-both : (b : Bool) → T b → T (not b) → ⊥

@@ -9,7 +9,6 @@ use lib.ListN.{length, get_or, replicate, length-replicate}
 use lib.Ieee.{Float, binary64, to_bits}
 use Rattle.binary64.specs.Steps.{nought}
 use Rattle.dense.specs.Entries.{nth}
-use Rattle.sets.specs.Mask.{has}
 use Rattle.words.specs.Words.{put_u32, put_u64, put_f64, put_word}
 use Rattle.words.proofs.Back.{put-length}
 use Rattle.screen.specs.declared.Outcome.{Outcome}
@@ -24,7 +23,7 @@ use Rattle.record.specs.Record.{written}
 use Rattle.rounds.specs.Solve.{normalised}
 use Rattle.rounds.specs.Demand.{params_by}
 use Rattle.why.specs.declared.State.{State}
-use Rattle.why.specs.States.{state_by, clashing, residual_at, state_of, number_of, turn_in, clashes_in, residual_in, rows_at, states_to}
+use Rattle.why.specs.States.{clashing, residual_at, state_of, number_of, turn_in, clashes_in, residual_in, rows_at, states_to}
 use Rattle.why.specs.Held.{state_in}
 
 -- no byte comes or goes

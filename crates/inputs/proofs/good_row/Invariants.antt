@@ -7,6 +7,3 @@ use Rattle.inputs.proofs.good_row.Given as goal
 
 abbrev pub invariant-loop-j : goal.invariant-loop-j
 invariant-loop-j l = (l.i ≤ l.j) × (l.j ≤ l.n) × (l.good ≡ good_row_to l.clock l.n l.i (l.j - l.i))
-
-abbrev pub decreases-loop-j : goal.decreases-loop-j
-decreases-loop-j l = l.n - l.j

@@ -1,6 +1,6 @@
 -- `receptions::of_bytes` meets its contract: each turn stores the next reception's fields and its bit (`fields-next`). Assumes nothing.
 use mathlib.Core.Path.{◌≡◌}
-use Prim.Native.Nat.{◌-◌, ◌≤◌}
+use Prim.Native.Nat.{◌≤◌}
 use Rattle.receptions.specs.Receptions.{reception_at, fields_of}
 use Rattle.receptions.proofs.Unpacked.{last_of}
 use Rattle.receptions.proofs.of_bytes.Given as goal
@@ -17,6 +17,3 @@ invariant-loop-i l =
       noise_m2 = l.noise_m2;
       filler = l.filler;
     } ≡ fields_of (reception_at l.receptions) l.i))
-
-abbrev pub decreases-loop-i : goal.decreases-loop-i
-decreases-loop-i l = l.n - l.i

@@ -1,5 +1,4 @@
 -- `why::asked` meets its contract: what the checks refuse is turned away, and what passes is a problem (`Verdicts`). Assumes nothing.
-use borrow.Author.Rules.{rules}
 use mathlib.Core.Path.{◌≡◌, sym, ap, ◌∙◌}
 use Prim.Native.Nat.{ℕ}
 use Rattle.receptions.specs.declared.Reception.{Reception}

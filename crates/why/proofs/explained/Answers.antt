@@ -1,5 +1,4 @@
 -- `why::explained` meets its contract: by the cases of the answer (`Verdicts`). Assumes nothing.
-use borrow.Author.Rules.{rules}
 use mathlib.Core.Path.{◌∙◌}
 use Rattle.rounds.specs.declared.answer.Case.TheVariants as case
 use Rattle.why.proofs.Verdicts.{verdict-told, states-told, refusal-told}

@@ -1,5 +1,4 @@
 -- `why::put_state` meets its contract: the rows are written in turn. Assumes nothing.
-use borrow.Author.Rules.{rules}
 use mathlib.Core.Path.{◌∙◌}
 use Rattle.why.proofs.put_state.Goals as goal
 

@@ -1,11 +1,8 @@
 -- `why::put_states` meets its contract: after i turns the states of the first i receptions are written (`states-next`). Assumes nothing.
-use borrow.Author.Rules.{rules}
-use Prim.Native.Nat.{◌-◌, ◌≤◌}
 use mathlib.Core.Path.{◌≡◌, refl, ap, ◌∙◌}
 use native.Mathlib.Omega.{arith}
 use lib.ListN.{length}
 use Rattle.why.specs.States.{states_to}
-use Rattle.why.specs.Held.{state_in}
 use Rattle.why.proofs.Writing.{states-length, states-next}
 use Rattle.why.proofs.put_states.Goals as goal
 

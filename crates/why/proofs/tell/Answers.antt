@@ -1,5 +1,4 @@
 -- `why::tell` meets its contract: what the removals and the residuals tell are the states (`told`). Assumes nothing.
-use borrow.Author.Rules.{rules}
 use mathlib.Core.Path.{◌∙◌}
 use Rattle.why.proofs.Writing.{told}
 use Rattle.why.proofs.tell.Goals as goal

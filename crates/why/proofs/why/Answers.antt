@@ -1,5 +1,4 @@
 -- `why::why` meets its contract: 14 is tested first, and its arrays hold the receptions of its bytes (`few-held`). Assumes nothing.
-use borrow.Author.Rules.{rules}
 use mathlib.Core.Path.{ap}
 use Prim.Native.Nat.{◌/◌}
 use native.Mathlib.Omega.{arith}

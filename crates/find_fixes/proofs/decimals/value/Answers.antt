@@ -1,0 +1,25 @@
+-- `find_fixes::decimals::value` meets its contract. By the definition. Assumes nothing.
+use Rattle.std.proofs.Common.{◌≡◌, Bool, cond, ◌&&◌, sym, ap, ◌∙◌, ap₂, rules}
+use lib.Ieee.{Float, neg}
+use Rattle.binary64.specs.Steps.{◌⊘◌}
+use Rattle.find_fixes.specs.declared.decimals.Number.{Number}
+use Rattle.find_fixes.specs.Decimals.{value_of}
+use Rattle.find_fixes.proofs.decimals.value.Goals as goal
+
+-- the size with its sign, from the two numbers
+sized : (v x y x' y' : Float) (minus : Bool) → v ≡ cond minus (neg (x ⊘ y)) (x ⊘ y) → x ≡ x' → y ≡ y' → v ≡ cond minus (neg (x' ⊘ y')) (x' ⊘ y')
+sized v x y x' y' minus e a b = e ∙ ap₂ (λ (x y : Float). cond minus (neg (x ⊘ y)) (x ⊘ y)) a b
+
+pub returns-then-d : goal.returns-then-d
+unfolding value_of
+returns-then-d c =
+    ap₂ (λ (g : Bool) (v : Float). record { good = g && c.args.d.some; value = v }) (sym c.if-d.true)
+    (sized _ _ _ _ _ c.args.minus c.signed-value.ensures
+    c.nearest_u64_to_f64.ensures c.nearest_u64_to_f64-2.ensures)
+
+pub returns : goal.returns
+unfolding value_of
+returns c =
+    ap₂ (λ (g : Bool) (v : Float). record { good = g && c.args.d.some; value = v }) (sym c.if-d.false)
+    (sized _ _ _ _ _ c.args.minus c.signed-value.ensures
+    c.nearest_u64_to_f64.ensures c.nearest_u64_to_f64-2.ensures)
