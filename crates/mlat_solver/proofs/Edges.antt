@@ -18,7 +18,7 @@ edges = record {
   at_equality = (pairs.equality-passes, pairs.one-more-fails);
   twos = pairs.baseline-of-twos;
   farthest = pairs.baseline-of-the-farthest;
-  first_goes = pairs.first_goes;
+  first_goes = pairs.first-goes;
   middle_goes = pairs.middle-goes;
   root_of_two = numbers.root-of-two;
   root_of_least = numbers.root-of-least;
@@ -47,10 +47,12 @@ pub sums-from-plus-zero : SumsFromPlusZero
 sums-from-plus-zero n = ap (to_bits binary64) (sum_is n) ∙ nought-bits
 
 second : (x : Bool) (a b : Float) → T (not x) → cond x a b ≡ b
+second true a b h = elim h [ ]
 second false a b h = refl
 
 first : (x : Bool) (a b : Float) → T x → cond x a b ≡ a
 first true a b h = refl
+first false a b h = elim h [ ]
 
 pub max-gives-second : MaxGivesSecond
 unfolding max_of lt neg of_bits
