@@ -141,7 +141,7 @@ next-outputs p more out w = put-out p more out w
 next-used : Clause (λ (n : NextSolved). n.used)
 next-used p more out found w l = counted p more out w found l
 
-next-torn : Clause (λ (n : NextSolved). n.torn)
+next-torn : Clause (λ (n : NextSolved). n.ends_within)
 next-torn s out l = (sixteen-short s out, λ h. short-answer s out h l)
 
 next-ends : Clause (λ (n : NextSolved). n.ends)
@@ -152,7 +152,7 @@ next-solved = record {
   answers = next-answers;
   outputs = next-outputs;
   used = next-used;
-  torn = next-torn;
+  ends_within = next-torn;
   ends = next-ends;
   stays = as-found;
 }

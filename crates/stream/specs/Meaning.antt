@@ -98,7 +98,7 @@ pub record NextSolved : Type 0 where
       (p : Parts) (more out : List ℕ) (found : ℕ) → Writable p → 176 ≤ length out
       → used_after (written p ++ more) out found ≡ length (written p)
   -- 16 exactly where the stream ends before its first problem does
-  pub torn : (s out : List ℕ) → 176 ≤ length out → (next_answer s out ≡ 16) ↔ (length s < takes s)
+  pub ends_within : (s out : List ℕ) → 176 ≤ length out → (next_answer s out ≡ 16) ↔ (length s < takes s)
   -- as every start of a problem does
   pub ends :
       (p : Parts) (front more out : List ℕ) → Writable p → written p ≡ front ++ more → 0 < length more
