@@ -1,4 +1,4 @@
-/* Lists a file of fix records: records FILE. Build: rt staticlib mlat_solver;
+/* Lists a file of fix records: records FILE. Build: tools/shared_library;
    cc -Iinclude examples/records.c target/staticlib/libmlat_solver.a -o target/records */
 #include <inttypes.h>
 #include <stdio.h>

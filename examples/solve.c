@@ -1,7 +1,7 @@
 /* Solves the four files of a folder: solve [FOLDER]. A file that is not there is an absent input; one that is there and
    cannot be read ends the program. Exit status: 0 a fix, 1 a refusal, 2 nothing was solved.
    The bytes of the record are its struct: the library is for little-endian machines.
-   Build: rt staticlib mlat_solver; cc -Iinclude examples/solve.c target/staticlib/libmlat_solver.a -o target/solve */
+   Build: tools/shared_library; cc -Iinclude examples/solve.c target/staticlib/libmlat_solver.a -o target/solve */
 #include <errno.h>
 #include <stdio.h>
 #include <stdlib.h>

@@ -22,7 +22,7 @@ extern "C" {
 /* The version of this header: three numbers, and all as one, which orders versions: MAJOR * 1,000,000 + MINOR * 1,000 +
    PATCH. */
 #define MLAT_VERSION_MAJOR 0
-#define MLAT_VERSION_MINOR 4
+#define MLAT_VERSION_MINOR 3
 #define MLAT_VERSION_PATCH 0
 #define MLAT_VERSION (MLAT_VERSION_MAJOR * 1000000 + MLAT_VERSION_MINOR * 1000 + MLAT_VERSION_PATCH)
 
@@ -31,7 +31,7 @@ extern "C" {
    the major one is enough) and its number no less:
        mlat_version() / 1000 == MLAT_VERSION / 1000 && mlat_version() >= MLAT_VERSION
    The loader sees to it: the soname has the major version, and while that is 0 the minor one. The preprocessor takes
-   MLAT_VERSION too: #if MLAT_VERSION >= 4000. */
+   MLAT_VERSION too: #if MLAT_VERSION >= 3000. */
 uint32_t mlat_version(void);
 
 /* ---- answers */

@@ -1,5 +1,5 @@
 //! Links the proved static library: that of the folder that MLAT_SOLVER_LIB names; else that of the repository, where
-//! `rt staticlib mlat_solver` writes it; else one that is installed, by pkg-config or in the system's folders.
+//! `tools/shared_library` writes it; else one that is installed, by pkg-config or in the system's folders.
 
 use std::path::PathBuf;
 use std::process::Command;
@@ -13,7 +13,7 @@ fn main() {
     let Some(folder) = folders.iter().find(|folder| folder.join(ARCHIVE).exists()) else {
         let names: Vec<String> = folders.iter().map(|folder| folder.display().to_string()).collect();
         println!(
-            "cargo::error={ARCHIVE} is not in {}: run `rt staticlib mlat_solver` in the repository, or install it, or \
+            "cargo::error={ARCHIVE} is not in {}: run `tools/shared_library` in the repository, or install it, or \
              name its folder with MLAT_SOLVER_LIB",
             names.join(", ")
         );

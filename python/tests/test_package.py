@@ -5,6 +5,7 @@ import contextlib
 import ctypes
 import dataclasses
 import io
+import json
 import math
 import mmap
 import os
@@ -267,6 +268,8 @@ class Commands(unittest.TestCase):
             for words, part in (
                 ((pathlib.Path(folder, "none"),), "none: No such file or directory"),
                 ((torn,), "receptions.bin: Not a directory"),
+                (("records", torn), "receptions.bin: refusal 16"),
+                (("records", folder), ": Is a directory"),
                 (("page", torn, 0, "-o", "-"), "receptions.bin: refusal 16"),
                 (("page", folder, 0, "-o", "-"), ": Is a directory"),
                 (("page", recordings.EXAMPLES / "records.bin", 4, "-o", "-"), "records.bin, place 4: refusal 17"),
@@ -283,6 +286,44 @@ class Commands(unittest.TestCase):
         with open(recordings.EXAMPLES / "records.bin", "rb") as file:
             ended = subprocess.run(words, input=file.read(), stdout=subprocess.PIPE, check=True)
         self.assertIn(b"reception 3: not used", ended.stdout)
+
+    def test_listing(self):
+        file = recordings.EXAMPLES / "records.bin"
+        status, out, _ = run("records", file, "--csv")
+        self.assertEqual((status, len(out.splitlines())), (0, 5))
+        listed = [json.loads(line) for line in run("records", file, "--json")[1].splitlines()]
+        self.assertEqual([held["answer"] for held in listed], [0, 0, 8, 0])
+        first = next(records(file))
+        self.assertEqual(listed[0]["latitude_deg"], first.position.lat_deg)
+        self.assertEqual((listed[0]["version"], listed[0]["altitude_m"]), (8, first.altitude.metres))
+        covariance = [one for row in first.covariance for one in row]
+        self.assertEqual([listed[0][f"c{at // 3}{at % 3}"] for at in range(9)], covariance)
+        self.assertEqual(run("records", recordings.EXAMPLES / "fix" / "clock.bin")[:2], (2, ""))
+
+    def test_near(self):
+        program = recordings.REPOSITORY / "crates" / "find_fixes"
+        file, *query = (program / "args").read_text().split()
+        due = (program / "stdout").read_text()
+        self.assertEqual(run("near", program / "data" / file, *query)[:2], (0, due))
+        moved = run("near", program / "data" / file, *query[:-1], "2500000")[1]
+        self.assertNotEqual(moved, due)
+        status, out, _ = run("near", recordings.EXAMPLES / "records.bin", "47.6", "-9.3", "11000", "0")
+        self.assertEqual((status, out), (0, "nearest: place 0, 1396784.404 m away\n"))
+
+    def test_near_nothing(self):
+        file = recordings.EXAMPLES / "records.bin"
+        status, out, said = run("near", file, "47.6", "9.3", "11000", "-1")
+        self.assertEqual((status, out), (2, ""))
+        self.assertIn("refusal 22", said)
+        self.assertEqual(run("near", recordings.EXAMPLES / "fix" / "clock.bin", 1, 2, 3, 4)[:2], (2, ""))
+        self.assertEqual(run("near", file, "1", "2", "x", "3")[0], 2)
+        with tempfile.TemporaryDirectory() as folder:
+            path = pathlib.Path(folder, "refused.bin")
+            path.write_bytes((recordings.EXAMPLES / "ambiguous" / "record.bin").read_bytes())
+            self.assertEqual(run("near", path, 1, 2, 3, 4)[:2], (0, "nearest: none, the file has no fix\n"))
+            far = dataclasses.replace(next(records(file)), ecef=(1e200, 0.0, 0.0))
+            path.write_bytes(write(far))
+            self.assertEqual(run("near", path, 1, 2, 3, 4)[:2], (0, "nearest: place 0, over 10^16 m away\n"))
 
     def test_patterns(self):
         due = (recordings.DATA / "patterns" / "table.txt").read_text()

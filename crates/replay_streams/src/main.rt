@@ -1,5 +1,5 @@
-// Solves a recorded stream of problems by the C functions of streams. Standard input holds the stream; RECORDING.md says
-// where it is from. Prints the record of each problem by `mlat_solve_next`, at its place in the stream; then once more
+// Solves a recorded stream of problems by the C functions of streams. Standard input holds the stream; RECORDING.md
+// says where it is from. Prints the record of each problem by `mlat_solve_next`, at its place in the stream; then once more
 // the record of each, of inputs that are cut as `mlat_cut_lengths` says. The expected output is twice the records that
 // the original gives.
 #![tactic(auto)]
@@ -59,15 +59,20 @@ fn push_word(cut: &mut Vec<u8>, word: u32) -> Result<(), AllocError> {
     Ok(())
 }
 
+fn push_lengths(cut: &mut Vec<u8>, lengths: [u32; 4]) -> Result<(), AllocError> {
+    for length in lengths {
+        push_word(cut, length)?;
+    }
+    Ok(())
+}
+
 // The problem with each input cut to so much of its start as is enough.
 fn cut(alloc: Global, problem: &[u8]) -> Result<Vec<u8>, AllocError> {
     let whole = lengths(problem);
     let mut enough = [0; 4];
     mlat_solver::mlat_cut_lengths(&whole, &mut enough);
     let mut cut = Vec::new(alloc);
-    for length in enough {
-        push_word(&mut cut, length)?;
-    }
+    push_lengths(&mut cut, enough)?;
     let mut at = HEAD;
     for i in 0..4 {
         push_part(&mut cut, problem, at, size(enough[i]))?;
@@ -105,25 +110,36 @@ fn rest(stream: &[u8], used: u64) -> &[u8] {
     &stream[used as usize..]
 }
 
-fn main(rt: HostRuntime) -> io::Result<()> {
-    let mut stream = Vec::new(rt.alloc());
-    rt.stdin().read_to_end(&mut stream)?;
-    let mut left = &stream[..];
+// Solves the problems of a stream as they stand in it.
+fn solve_all(rt: &impl Print, stream: &[u8]) -> io::Result<()> {
+    let mut left = stream;
     for _ in 0..MOST {
-        let used = solve(&rt, left)?;
+        let used = solve(rt, left)?;
         if used == 0 {
             break;
         }
         left = rest(left, used);
     }
-    let mut left = &stream[..];
+    Ok(())
+}
+
+// Solves the problems of a stream, each with its inputs cut.
+fn solve_all_cut(rt: &impl Print, alloc: Global, stream: &[u8]) -> io::Result<()> {
+    let mut left = stream;
     for _ in 0..MOST {
         if left.len() < HEAD {
             break;
         }
-        let problem = cut(rt.alloc(), left)?;
-        solve(&rt, &problem)?;
+        let problem = cut(alloc, left)?;
+        solve(rt, &problem)?;
         left = rest(left, takes(left));
     }
     Ok(())
+}
+
+fn main(rt: HostRuntime) -> io::Result<()> {
+    let mut stream = Vec::new(rt.alloc());
+    rt.stdin().read_to_end(&mut stream)?;
+    solve_all(&rt, &stream)?;
+    solve_all_cut(&rt, rt.alloc(), &stream)
 }
