@@ -1,5 +1,5 @@
 -- The digits of a text, byte by byte. Assumes nothing.
-use Rattle.std.proofs.Common.{◌≡◌, ℕ, ◌+◌, ◌<◌, ◌≤◌, List, [], ◌∷◌, length, get_or, drop, sym, refl, ap, ◌∙◌, add-one, drop-cons}
+use Rattle.std.proofs.Common.{◌≡◌, ℕ, ◌+◌, ◌<◌, List, length, get_or, drop, sym, ap, ◌∙◌, add-one, drop-cons}
 use lib.Seq.{drop-length}
 use Rattle.find_fixes.specs.declared.decimals.Digits.{Digits}
 use Rattle.find_fixes.specs.Decimals.{next, digits_of}

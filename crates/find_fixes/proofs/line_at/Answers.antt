@@ -1,5 +1,5 @@
 -- `find_fixes::line_at` meets its contract. Each return is the line by what is held of the record. Assumes nothing.
-use Rattle.std.proofs.Common.{ℕ, List, ap, ◌∙◌, arith, rules}
+use Rattle.std.proofs.Common.{ℕ, List, ap, ◌∙◌, arith}
 use borrow.Author.Tests.{not-true, not-false}
 use Rattle.near.specs.Parts.{nearest_in}
 use Rattle.text.specs.Text.{text_of}

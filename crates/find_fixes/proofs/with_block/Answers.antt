@@ -1,6 +1,6 @@
 -- `find_fixes::with_block` meets its contract: the block's nearest is joined to the one that is held, and its refusal counts before the one so far.
 -- Assumes nothing.
-use Rattle.std.proofs.Common.{◌≡◌, ℕ, cond, eqb, List, sym, ap, ◌∙◌, ap₂, rules}
+use Rattle.std.proofs.Common.{◌≡◌, ℕ, cond, eqb, List, sym, ap, ◌∙◌, ap₂}
 use lib.Ieee.{Float}
 use Rattle.near.specs.declared.Held.{Held}
 use Rattle.near.specs.Parts.{nearest_in, joined}

@@ -1,6 +1,6 @@
 -- `count_patterns::lines::line_of` meets its contract. The pieces, one after the other (`seven`), behind nothing.
-use Prim.Native.Nat.{ℕ, ◌^◌}
-use mathlib.Core.Path.{◌≡◌, ap₂, ◌∙◌}
+use Prim.Native.Nat.{ℕ}
+use mathlib.Core.Path.{ap₂, ◌∙◌}
 use mathlib.Core.List.{List, ◌++◌}
 use native.Mathlib.Omega.{arith}
 use Rattle.text.specs.Text.{text_of, ascii}

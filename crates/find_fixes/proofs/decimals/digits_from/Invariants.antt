@@ -1,8 +1,7 @@
 -- `find_fixes::decimals::digits_from` meets its contract. The invariant: the digits so far and the bytes from i on come to what all bytes do.
 -- Assumes nothing.
-use Rattle.std.proofs.Common.{◌≡◌, ◌-◌, ◌≤◌, List, [], ◌∷◌, length, get_or, drop, sym, refl, ap, ◌∙◌, arith, rules}
+use Rattle.std.proofs.Common.{◌≡◌, ◌-◌, ◌≤◌, drop}
 use Rattle.find_fixes.specs.Decimals.{begun, digits_of}
-use Rattle.find_fixes.proofs.Reading.{further, ended}
 use Rattle.find_fixes.proofs.decimals.digits_from.Given as goal
 
 abbrev pub invariant-loop-i : goal.invariant-loop-i

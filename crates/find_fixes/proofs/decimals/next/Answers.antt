@@ -1,5 +1,5 @@
 -- `find_fixes::decimals::next` meets its contract. Its tests are those of the definition. Assumes nothing.
-use Rattle.std.proofs.Common.{rules, le-ltb, lt-ltb, eq-eqb, ne_eqb, le-leb}
+use Rattle.std.proofs.Common.{le-ltb, lt-ltb, eq-eqb, ne_eqb, le-leb}
 use borrow.Author.Tests.{lt-leb}
 use Rattle.find_fixes.specs.Decimals.{most, next}
 use Rattle.find_fixes.proofs.decimals.next.Goals as goal

@@ -1,5 +1,5 @@
 -- `find_fixes::decimals::parsed` meets its contract. Its tests are those of the definition. Assumes nothing.
-use Rattle.std.proofs.Common.{◌≡◌, true, false, length, get_or, ap, ◌∙◌, rules, eq-eqb, ne_eqb}
+use Rattle.std.proofs.Common.{true, false, length, get_or, ap, ◌∙◌, eq-eqb, ne_eqb}
 use Rattle.find_fixes.specs.declared.decimals.Digits.{Digits}
 use Rattle.find_fixes.specs.Decimals.{value_of, number_of}
 use Rattle.find_fixes.proofs.decimals.parsed.Goals as goal

@@ -1,5 +1,5 @@
 -- `find_fixes::decimals::pointed` meets its contract. The test is the definition's. Assumes nothing.
-use Rattle.std.proofs.Common.{◌≡◌, Bool, cond, sym, ap, ◌∙◌, rules}
+use Rattle.std.proofs.Common.{Bool, cond, sym, ap, ◌∙◌}
 use Rattle.find_fixes.specs.Decimals.{spoilt, onward, pointed}
 use Rattle.find_fixes.proofs.decimals.pointed.Goals as goal
 

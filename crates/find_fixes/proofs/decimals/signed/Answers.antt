@@ -1,5 +1,4 @@
 -- `find_fixes::decimals::signed` meets its contract. Its test is the definition's. Assumes nothing.
-use Rattle.std.proofs.Common.{rules}
 use Rattle.find_fixes.proofs.decimals.signed.Goals as goal
 
 pub returns-then-minus : goal.returns-then-minus

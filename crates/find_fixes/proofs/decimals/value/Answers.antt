@@ -1,8 +1,7 @@
 -- `find_fixes::decimals::value` meets its contract. By the definition. Assumes nothing.
-use Rattle.std.proofs.Common.{◌≡◌, Bool, cond, ◌&&◌, sym, ap, ◌∙◌, ap₂, rules}
+use Rattle.std.proofs.Common.{◌≡◌, Bool, cond, ◌&&◌, sym, ◌∙◌, ap₂}
 use lib.Ieee.{Float, neg}
 use Rattle.binary64.specs.Steps.{◌⊘◌}
-use Rattle.find_fixes.specs.declared.decimals.Number.{Number}
 use Rattle.find_fixes.specs.Decimals.{value_of}
 use Rattle.find_fixes.proofs.decimals.value.Goals as goal
 

@@ -1,5 +1,5 @@
 -- `find_fixes::lines::fix_line` meets its contract. The line is behind nothing. Assumes nothing.
-use Rattle.std.proofs.Common.{◌≡◌, ℕ, List, ◌++◌, ap, ◌∙◌, arith, rules}
+use Rattle.std.proofs.Common.{ℕ, List, ◌++◌, ap, ◌∙◌, arith}
 use Rattle.find_fixes.specs.Lines.{fix_line}
 use Rattle.find_fixes.proofs.lines.fix_line.Goals as goal
 

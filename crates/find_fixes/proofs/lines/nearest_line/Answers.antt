@@ -1,5 +1,5 @@
 -- `find_fixes::lines::nearest_line` meets its contract. Its test is the definition's. Assumes nothing.
-use Rattle.std.proofs.Common.{◌≡◌, Bool, cond, List, ◌++◌, sym, ap, ◌∙◌, arith, rules}
+use Rattle.std.proofs.Common.{◌≡◌, Bool, cond, ◌++◌, sym, ap, ◌∙◌, arith}
 use Rattle.text.specs.Text.{ascii}
 use Rattle.near.specs.declared.Held.{Held}
 use Rattle.find_fixes.specs.Lines.{fix_line, nearest_line}

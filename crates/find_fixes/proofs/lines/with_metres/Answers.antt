@@ -1,5 +1,5 @@
 -- `find_fixes::lines::with_metres` meets its contract. Its test is the definition's. Assumes nothing.
-use Rattle.std.proofs.Common.{Bool, cond, T, ◌++◌, sym, ap, ◌∙◌, subst, arith, rules}
+use Rattle.std.proofs.Common.{Bool, cond, T, ◌++◌, sym, ap, ◌∙◌, subst, arith}
 use Rattle.text.specs.Text.{text_of}
 use Rattle.find_fixes.specs.Lines.{millimetres, far, whole, metres}
 use Rattle.find_fixes.proofs.lines.with_metres.Goals as goal

@@ -1,5 +1,5 @@
 -- `find_fixes::lines::with_mm` meets its contract. The pieces, one after the other (`five`). Assumes nothing.
-use Rattle.std.proofs.Common.{◌/◌, ◌%◌, arith, rules}
+use Rattle.std.proofs.Common.{◌/◌, ◌%◌, arith}
 use Rattle.text.specs.Text.{text_of, ascii, decimal}
 use Rattle.find_fixes.specs.Lines.{thousandths}
 use Rattle.text.proofs.Joined.{five}

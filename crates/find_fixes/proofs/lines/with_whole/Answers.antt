@@ -1,5 +1,5 @@
 -- `find_fixes::lines::with_whole` meets its contract. Its test is the definition's, and says that what is cut is a u64. Assumes nothing.
-use Rattle.std.proofs.Common.{◌≡◌, ℕ, T, List, ◌++◌, sym, ap, ◌∙◌, subst, arith, rules}
+use Rattle.std.proofs.Common.{ℕ, T, ◌++◌, sym, ap, ◌∙◌, subst, arith}
 use lib.Ieee.{of_bits, neg}
 use Rattle.text.specs.Text.{text_of}
 use Rattle.find_fixes.specs.Lines.{thousandths, whole}
