@@ -27,11 +27,9 @@ extern "C" {
 #define MLAT_VERSION (MLAT_VERSION_MAJOR * 1000000 + MLAT_VERSION_MINOR * 1000 + MLAT_VERSION_PATCH)
 
 /* The version of the library that is linked or loaded, in the form of MLAT_VERSION; 0.2.0 and before have no such
-   function. A library has all that this header has where its major and its minor version are the same (from 1.0.0 on
-   the major one is enough) and its number no less:
-       mlat_version() / 1000 == MLAT_VERSION / 1000 && mlat_version() >= MLAT_VERSION
-   The loader sees to it: the soname has the major version, and while that is 0 the minor one. The preprocessor takes
-   MLAT_VERSION too: #if MLAT_VERSION >= 3000. */
+   function. A library has all that this header has where its major version is the same and its number no less:
+       mlat_version() / 1000000 == MLAT_VERSION_MAJOR && mlat_version() >= MLAT_VERSION
+   The preprocessor takes MLAT_VERSION too: #if MLAT_VERSION >= 3000. */
 uint32_t mlat_version(void);
 
 /* ---- answers */

@@ -132,10 +132,9 @@ taken() {
 
 # The functions below are called in the folder of the repository.
 
-# soname: the shared library's name for the loader. While the major version is 0, each minor one may take something away, so both stand in it.
+# soname: the shared library's name for the loader, with the major version.
 soname() {
-    IFS=. read -r major minor _ <version.txt
-    [ "$major" -gt 0 ] || major=$major.$minor
+    IFS=. read -r major _ <version.txt
     echo "libmlat_solver.so.$major"
 }
 

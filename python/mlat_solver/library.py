@@ -16,8 +16,8 @@ from typing import Any, Callable, Iterator, Tuple
 
 #: The environment variable that names the shared library, before all other places.
 VARIABLE = "MLAT_SOLVER_LIBRARY"
-#: The library's name for the loader, with the version: the major one, and the minor while that is 0.
-SONAME = "libmlat_solver.so.0.3"
+#: The library's name for the loader, with the major version.
+SONAME = "libmlat_solver.so.0"
 
 
 class LibraryNotFound(OSError):

@@ -27,7 +27,7 @@ _WORDS = (
     "the clock covariance has not 8 n n bytes",
     "less memory was lent than is written",
     "an input has not a whole number of entries",
-    "a file is not whole records, a record has another length than its form, or a stream ends within a problem",
+    "a file is not whole records, or a record has another length than its form",
     "the file has no record at that place",
     "it is no fix record: a field breaks the record's rules",
     "there is no position within the limits of the wire",

@@ -286,6 +286,10 @@ class Commands(unittest.TestCase):
         with open(recordings.EXAMPLES / "records.bin", "rb") as file:
             ended = subprocess.run(words, input=file.read(), stdout=subprocess.PIPE, check=True)
         self.assertIn(b"reception 3: not used", ended.stdout)
+        words = [sys.executable, "-m", "mlat_solver", "records", "/dev/stdin", "--json"]
+        with open(recordings.EXAMPLES / "records.bin", "rb") as file:
+            ended = subprocess.run(words, input=file.read(), stdout=subprocess.PIPE, check=True)
+        self.assertEqual(len(ended.stdout.splitlines()), 4)
 
     def test_listing(self):
         file = recordings.EXAMPLES / "records.bin"

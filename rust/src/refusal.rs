@@ -235,7 +235,7 @@ impl fmt::Display for Refusal {
             Refusal::ClockSize => "the clock covariance is not n × n",
             Refusal::ShortOutput => "the output is shorter than the answer",
             Refusal::TornInput => "an input has not a whole number of entries",
-            Refusal::TornFile => "the bytes are not whole records of 176, or end within a problem",
+            Refusal::TornFile => "the bytes are not whole records of 176",
             Refusal::NoSuchPlace => "the file has no record at that place",
             Refusal::MalformedRecord => "it is no fix record: a field breaks the record's rules",
             Refusal::BeyondTheWire => "there is no position within the limits of the wire",

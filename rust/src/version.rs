@@ -8,7 +8,7 @@ extern "C" {
 ///
 /// ```no_run
 /// let [major, minor, _] = jifrosk::version();
-/// assert_eq!((major, minor), (0, 4));
+/// assert_eq!((major, minor), (0, 3));
 /// ```
 pub fn version() -> [u32; 3] {
     // SAFETY: the call takes nothing.
