@@ -89,8 +89,8 @@ def pattern_calls():
 
 
 def cut_calls():
-    """crates/replay_numbers: of `mlat_cut_lengths`, the lengths and what they are cut to."""
-    held = (REPOSITORY / "crates" / "replay_numbers" / "stdin").read_bytes()
+    """rust/tests/data/streams: of `mlat_cut_lengths`, the lengths and what they are cut to."""
+    held = (DATA / "streams" / "cuts.bin").read_bytes()
     return [(words[1:5], words[13:17]) for words in struct.iter_unpack("<22Q", held) if words[0] == 10]
 
 

@@ -3,7 +3,7 @@
 use jifrosk::{cut_lengths, solve_bytes, solve_next, Refusal, ABSENT, RECEPTION, RECORD};
 
 const RECORDED: &str = concat!(env!("CARGO_MANIFEST_DIR"), "/../crates/replay/stdin");
-const CALLS: &str = concat!(env!("CARGO_MANIFEST_DIR"), "/../crates/replay_numbers/stdin");
+const CALLS: &str = concat!(env!("CARGO_MANIFEST_DIR"), "/tests/data/streams/cuts.bin");
 
 /// The inputs of a problem, receptions first.
 type Inputs<'a> = [Option<&'a [u8]>; 4];
@@ -118,7 +118,7 @@ fn what_is_cut_off_moves_no_answer() {
 
 #[test]
 fn lengths_are_cut_as_recorded() {
-    let bytes = std::fs::read(CALLS).expect("the recording of crates/replay_numbers");
+    let bytes = std::fs::read(CALLS).expect("the recorded cuts");
     let word = |call: &[u8], at: usize| u64::from_le_bytes(call[8 * at..8 * at + 8].try_into().expect("eight bytes"));
     let four = |call: &[u8], at: usize| [0, 1, 2, 3].map(|k| word(call, at + k) as u32);
     let calls: Vec<&[u8]> = bytes.chunks(176).filter(|call| word(call, 0) == 10).collect();
