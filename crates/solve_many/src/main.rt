@@ -9,7 +9,7 @@
 // what was solved before is written. An input or an output that fails is said there too. On a terminal a line there
 // tells how far it is.
 //
-// A program of the language has no exit status. With --status it writes how it ended to descriptor 3, one digit, from
+// Its exit status is 0 in each case. With --status it writes how it ended to descriptor 3, one digit, from
 // which the scripts ./solve_many and mlat-solve-many make theirs: 0 at the stream's end, 3 within a problem, 4 where
 // the input cannot be read, 5 where the output is not taken.
 #![tactic(auto)]
