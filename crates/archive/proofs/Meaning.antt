@@ -9,8 +9,9 @@ use lib.ListN.{length, take, drop}
 use lib.Seq.{take_at, drop_at}
 use borrow.Author.Tests.{eqb-true, eqb-false, ltb-false}
 use Rattle.record.specs.Record.{stored}
+use Rattle.refusals.specs.Refusals.{answer_of}
 use Rattle.reader.specs.Read.{read_of}
-use Rattle.reader.proofs.Meaning.{accepted}
+use Rattle.reader.proofs.Reading.{accepted}
 use Rattle.archive.specs.Forms.{new_form, old_form}
 use Rattle.archive.specs.Moves.{equal_mirror, old_refusal, new_refusal, to_archive_answer, to_archive_output, from_archive_answer, from_archive_output}
 use Rattle.archive.specs.Meaning.{OneOldForm, MovedExactly, UnequalMirrorExactly}
@@ -53,7 +54,7 @@ pub moved-exactly : MovedExactly
 unfolding to_archive_answer old_refusal
 moved-exactly s out = (
   λ e.
-      let t = moved_by (ltb (length out) 152) (eqb (read_of s).refusal 0) (equal_mirror s) (read_of s).refusal refl e in
+      let t = moved_by (ltb (length out) 152) (eqb (answer_of (read_of s)) 0) (equal_mirror s) (answer_of (read_of s)) refl e in
       (ltb-false (length out) 152 t.0, t.1, mirror-tested s t.2),
   λ h r m. to-moved s out h r (mirror-passes s m),
 )
@@ -62,7 +63,7 @@ pub unequal-mirror-exactly : UnequalMirrorExactly
 unfolding to_archive_answer old_refusal
 unequal-mirror-exactly s out = (
   λ e.
-      let t = unequal-by (ltb (length out) 152) (eqb (read_of s).refusal 0) (equal_mirror s) (read_of s).refusal refl (never-20 s) e in
+      let t = unequal-by (ltb (length out) 152) (eqb (answer_of (read_of s)) 0) (equal_mirror s) (answer_of (read_of s)) refl (never-20 s) e in
       (ltb-false (length out) 152 t.0, t.1, λ m. true≢false (sym (mirror-passes s m) ∙ t.2)),
   λ h r n. to-unequal s out h r (mirror-fails s (equal_mirror s) refl n),
 )
@@ -82,7 +83,7 @@ old-comes-back s out back b r m h g =
     let there : take 152 (to_archive_output s out) ≡ new_form s = moved-part s out z (to-moved s out h r (mirror-passes s m)) in
     let again = comes_back s b z m in
     let answer : from_archive_answer (new_form s) back ≡ 0 =
-    from-read (new_form s) back g (new-size s z) ∙ ap (λ (l : List ℕ). (read_of l).refusal) again ∙ r in
+    from-read (new_form s) back g (new-size s z) ∙ ap (λ (l : List ℕ). (answer_of (read_of l))) again ∙ r in
     rw there (answer, from-stored (new_form s) back answer ∙ ap (stored back) again)
 
 pub new-comes-back : NewComesBack
@@ -115,7 +116,7 @@ whole_by false false r e = absurd (omega arith)
 -- only 152 bytes are moved back
 whole : (a out : List ℕ) → from_archive_answer a out ≡ 0 → length a ≡ 152
 unfolding from_archive_answer new_refusal
-whole a out e = eqb-true (length a) 152 (whole_by (ltb (length out) 176) (eqb (length a) 152) (read_of (old_form a)).refusal e)
+whole a out e = eqb-true (length a) 152 (whole_by (ltb (length out) 176) (eqb (length a) 152) (answer_of (read_of (old_form a))) e)
 
 from_past : (a out : List ℕ) (b : Bool) → eqb (from_archive_answer a out) 0 ≡ b → drop 176 (from_archive_output a out) ≡ drop 176 out
 from_past a out true t =

@@ -7,6 +7,7 @@ use lib.Dec.{eqb}
 use lib.ListN.{length, drop}
 use borrow.Author.Tests.{eq-eqb, ne_eqb, lt-ltb, le-ltb}
 use Rattle.record.specs.Record.{stored}
+use Rattle.refusals.specs.Refusals.{answer_of}
 use Rattle.reader.specs.Read.{read_of}
 use Rattle.archive.specs.Forms.{bits, new_form, old_form}
 use Rattle.archive.specs.Moves.{equal_mirror, old_refusal, new_refusal, to_archive_answer, to_archive_output, from_archive_answer, from_archive_output}
@@ -41,13 +42,13 @@ read_by : (b m : Bool) (r : ℕ) → b ≡ true → cond b (cond m 0 20) r ≡ c
 read_by b m r e = rw e
 
 -- what the reader turns away gets the reader's number, and what it reads goes by its mirror
-old-unread : (s : List ℕ) → ((read_of s).refusal ≡ 0 → ⊥) → old_refusal s ≡ (read_of s).refusal
+old-unread : (s : List ℕ) → ((answer_of (read_of s)) ≡ 0 → ⊥) → old_refusal s ≡ (answer_of (read_of s))
 unfolding old_refusal
-old-unread s n = unread-by (eqb (read_of s).refusal 0) (equal_mirror s) (read_of s).refusal (ne_eqb (read_of s).refusal 0 n)
+old-unread s n = unread-by (eqb (answer_of (read_of s)) 0) (equal_mirror s) (answer_of (read_of s)) (ne_eqb (answer_of (read_of s)) 0 n)
 
-old-read : (s : List ℕ) → (read_of s).refusal ≡ 0 → old_refusal s ≡ cond (equal_mirror s) 0 20
+old-read : (s : List ℕ) → (answer_of (read_of s)) ≡ 0 → old_refusal s ≡ cond (equal_mirror s) 0 20
 unfolding old_refusal
-old-read s e = read_by (eqb (read_of s).refusal 0) (equal_mirror s) (read_of s).refusal (eq-eqb (read_of s).refusal 0 e)
+old-read s e = read_by (eqb (answer_of (read_of s)) 0) (equal_mirror s) (answer_of (read_of s)) (eq-eqb (answer_of (read_of s)) 0 e)
 
 module _ (s out : List ℕ) where
   pub to-short : length out < 152 → to_archive_answer s out ≡ 14
@@ -58,13 +59,13 @@ module _ (s out : List ℕ) where
   unfolding to_archive_answer
   to-long h = rw (le-ltb (length out) 152 h)
 
-  pub to-unread : 152 ≤ length out → ((read_of s).refusal ≡ 0 → ⊥) → to_archive_answer s out ≡ (read_of s).refusal
+  pub to-unread : 152 ≤ length out → ((answer_of (read_of s)) ≡ 0 → ⊥) → to_archive_answer s out ≡ (answer_of (read_of s))
   to-unread h n = to-long h ∙ old-unread s n
 
-  pub to-unequal : 152 ≤ length out → (read_of s).refusal ≡ 0 → equal_mirror s ≡ false → to_archive_answer s out ≡ 20
+  pub to-unequal : 152 ≤ length out → (answer_of (read_of s)) ≡ 0 → equal_mirror s ≡ false → to_archive_answer s out ≡ 20
   to-unequal h r m = to-long h ∙ old-read s r ∙ ap (λ (b : Bool). cond b 0 20) m
 
-  pub to-moved : 152 ≤ length out → (read_of s).refusal ≡ 0 → equal_mirror s ≡ true → to_archive_answer s out ≡ 0
+  pub to-moved : 152 ≤ length out → (answer_of (read_of s)) ≡ 0 → equal_mirror s ≡ true → to_archive_answer s out ≡ 0
   to-moved h r m = to-long h ∙ old-read s r ∙ ap (λ (b : Bool). cond b 0 20) m
 
   -- a refusal leaves the output as found
@@ -88,7 +89,7 @@ module _ (a out : List ℕ) where
   from-torn h n = rw (le-ltb (length out) 176 h, ne_eqb (length a) 152 n)
 
   -- of 152 bytes it is what the reader gives to the old form
-  pub from-read : 176 ≤ length out → length a ≡ 152 → from_archive_answer a out ≡ (read_of (old_form a)).refusal
+  pub from-read : 176 ≤ length out → length a ≡ 152 → from_archive_answer a out ≡ (answer_of (read_of (old_form a)))
   unfolding from_archive_answer new_refusal
   from-read h l = rw (le-ltb (length out) 176 h, eq-eqb (length a) 152 l)
 

@@ -1,12 +1,14 @@
 -- Parts of a list, put one after the other into another. Assumes nothing.
-use Prim.Native.Nat.{ℕ, ◌+◌, ◌<◌, ◌≤◌}
-use mathlib.Core.Path.{◌≡◌, ap, ◌∙◌}
+use Prim.Native.Nat.{ℕ, ◌+◌, ◌≤◌}
+use mathlib.Core.Path.{◌≡◌, sym, ap, ◌∙◌}
 use mathlib.Core.List.{List, ◌++◌}
 use native.Mathlib.Omega.{arith}
 use native.Mathlib.Nat.{zero-add}
-use native.Mathlib.Numerals.{add-one}
-use lib.ListN.{length, take, drop, get_or, set, length-drop}
-use lib.Seq.{paste, paste-suc, take-paste, length-paste, take-add, drop-drop, take_all, length-take-le, get_or-drop}
+use lib.ListN.{length, take, drop, length-drop}
+use lib.Seq.{paste, take-paste, length-paste, take-add, drop-drop, take_all, length-take-le}
+use borrow.Rule.Slice.PartMut.{put_mid}
+use Rattle.std.proofs.lemmas.List.{take-take}
+use Rattle.std.proofs.lemmas.Slice.{put_mid-paste}
 use Rattle.archive.specs.Forms.{part}
 
 -- what remains of s from byte k on is long enough for a part
@@ -31,13 +33,12 @@ pub grown
 grown d s p k at n h g e =
     take-paste d k (drop at s) n (omega arith) (rest s at n g) ∙ ap (λ (l : List ℕ). l ++ part s at n) e
 
--- a copy with one byte more
-pub Copied-next
-    : (d s t : List ℕ) (k at i : ℕ) → k + i < length d → at + i < length s → t ≡ paste d k (drop at s) i
-    → set t (k + i) (get_or s (at + i) 0) ≡ paste d k (drop at s) (i + 1)
-Copied-next d s t k at i h g e =
-    let left : i + 1 ≤ length (drop at s) = rest s at (i + 1) (omega arith) in
-    rw (e, ← get_or-drop at s i 0, paste-suc d k (drop at s) i 0 h (omega arith), add-one)
+-- a part of d that has become a part of s
+pub pasted
+    : (d s ys : List ℕ) (k at n i : ℕ) → at + n ≤ length s → ys ≡ part s at n → n ≡ i → put_mid k i d ys ≡ paste d k (drop at s) n
+pasted d s ys k at n i h e l =
+    put_mid-paste k i d ys (part s at n) n e l (sym (part_length s at n h))
+    ∙ ap (λ (m : List ℕ). take k d ++ m ++ drop (k + n) d) (take-take n n (drop at s) (omega arith))
 
 -- all of m, over the front of d
 pub over-front : (d m : List ℕ) (n : ℕ) → length m ≡ n → paste d 0 (drop 0 m) n ≡ m ++ drop n d

@@ -1,34 +1,38 @@
 -- Which numbers the reader gives. Assumes nothing.
 use Prim.Native.Nat.{ℕ}
-use mathlib.Core.Path.{◌≡◌, refl, sym, ◌∙◌}
+use mathlib.Core.Path.{◌≡◌, refl}
 use mathlib.Core.Bool.{Bool, true, false, cond}
 use mathlib.Core.List.{List}
 use native.Mathlib.Omega.{arith}
 use lib.Dec.{eqb}
 use lib.ListN.{length}
 use borrow.Author.Tests.{eq-eqb}
-use Rattle.reader.specs.declared.content.Reading.{Reading}
+use Rattle.std.specs.Prelude.{Ok, Err}
+use Rattle.refusals.specs.declared.Refusal.TheVariants.{TornFile, MalformedRecord}
+use Rattle.refusals.specs.Refusals.{answer_of}
+use Rattle.reader.specs.declared.content.Content.{Content}
 use Rattle.reader.specs.Tests.{meets_rules}
-use Rattle.reader.specs.Read.{read_of, content_at, turned_away}
-use Rattle.reader.specs.Meaning.{taken_apart}
+use Rattle.reader.specs.Read.{read_of, content_at}
 
-unread : (b : Bool) (x : Reading) → (x.refusal ≡ 0) → ((cond b x (turned_away 18)).refusal ≡ 0 → ⊥) → (cond b x (turned_away 18)).refusal ≡ 18
-unread true x e n = absurd (n e)
-unread false x e n = refl
+unread
+    : (b : Bool) (v : Content) → (answer_of (cond b (Ok v) (Err MalformedRecord)) ≡ 0 → ⊥)
+    → answer_of (cond b (Ok v) (Err MalformedRecord)) ≡ 18
+unread true v n = absurd (n refl)
+unread false v n = refl
 
 -- of 176 bytes 18 is the only refusal
-pub malformed : (s : List ℕ) → length s ≡ 176 → ((read_of s).refusal ≡ 0 → ⊥) → (read_of s).refusal ≡ 18
+pub malformed : (s : List ℕ) → length s ≡ 176 → (answer_of (read_of s) ≡ 0 → ⊥) → answer_of (read_of s) ≡ 18
 unfolding read_of
 malformed s z n =
     let t = eq-eqb (length s) 176 z in
-    rw t (unread (meets_rules s) (taken_apart (content_at s)) refl (rw t at n))
+    rw t (unread (meets_rules s) (content_at s) (rw t at n))
 
-other : (a b : Bool) (x : Reading) → (x.refusal ≡ 0) → ((cond a (cond b x (turned_away 18)) (turned_away 16)).refusal ≡ 20 → ⊥)
-other true true x e f = let n : ◌≡◌ {A = ℕ} 0 20 = sym e ∙ f in omega arith
-other true false x e f = let n : ◌≡◌ {A = ℕ} 18 20 = f in omega arith
-other false b x e f = let n : ◌≡◌ {A = ℕ} 16 20 = f in omega arith
+other : (a b : Bool) (v : Content) → (answer_of (cond a (cond b (Ok v) (Err MalformedRecord)) (Err TornFile)) ≡ 20 → ⊥)
+other true true v e = omega arith
+other true false v e = omega arith
+other false b v e = omega arith
 
 -- it never gives 20
-pub never-20 : (s : List ℕ) → ((read_of s).refusal ≡ 20 → ⊥)
+pub never-20 : (s : List ℕ) → (answer_of (read_of s) ≡ 20 → ⊥)
 unfolding read_of
-never-20 s = other (eqb (length s) 176) (meets_rules s) (taken_apart (content_at s)) refl
+never-20 s = other (eqb (length s) 176) (meets_rules s) (content_at s)

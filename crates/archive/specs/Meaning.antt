@@ -1,6 +1,6 @@
 -- Document 02, item 7: what the two moves come to. Statements only: proofs/ proves each.
 use Rattle.std.specs.Prelude.{ℕ, ◌<◌, ◌≤◌, ◌≡◌, List, ◌++◌, length, take, drop}
-use Rattle.refusals.specs.Refusals.{torn_file, malformed_record, unequal_mirror}
+use Rattle.refusals.specs.Refusals.{torn_file, malformed_record, unequal_mirror, answer_of}
 use Rattle.record.specs.Record.{stored, record_bytes}
 use Rattle.reader.specs.Read.{read_of}
 use Rattle.reader.specs.Meaning.{Bytes}
@@ -13,7 +13,7 @@ EqualMirror s = (i j : ℕ) → i < 3 → j < 3 → bits s i j ≡ bits s j i
 
 -- the reader takes it apart
 abbrev pub Readable : List ℕ → Type 0
-Readable s = (read_of s).refusal ≡ 0
+Readable s = answer_of (read_of s) ≡ 0
 
 -- ---- the forms
 

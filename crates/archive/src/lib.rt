@@ -2,10 +2,13 @@
 // record of 176 bytes to one of 152, `from_archive` moves it back. Bytes are copied as they are.
 #![tactic(auto)]
 
-ghost use Rattle.std.specs.Prelude.{◌≡◌, ◌+◌, ◌≤◌, eqb, length, drop};
+ghost use Rattle.std.specs.Prelude.{◌≡◌, ◌+◌, ◌≤◌, length, drop};
 ghost use Rattle.std.proofs.Math.Seq.{paste};
+ghost use Rattle.refusals.specs.Refusals.{answer_of};
 ghost use Rattle.archive.specs.Forms as forms;
 ghost use Rattle.archive.specs.Moves as moves;
+
+use refusals::Refusal;
 
 // The bytes of a record in the old form and in the new.
 const OLD: usize = 176;
@@ -17,9 +20,7 @@ fn copy(s: &[u8], at: usize, count: usize, to: &mut [u8], k: usize)
     requires { (at + count ≤ length s.now) × (k + count ≤ length to.old) }
     ensures { to.new ≡ paste to.old k (drop at s.now) count }
 {
-    for i in 0..count {
-        to[k + i] = s[at + i];
-    }
+    to[k..k + count].copy_from_slice(&s[at..at + count]);
 }
 
 // The new form of a record in the old one: of each row the entries from the diagonal on.
@@ -53,65 +54,49 @@ fn old_form(a: &[u8]) -> [u8; 176]
     s
 }
 
-// Whether two entries have equal bits. As floats -0 and 0 would be equal.
-fn same_bits(x: u64, y: u64) -> bool
-    ensures { result ≡ eqb x y }
-{
-    x == y
-}
-
-// Whether mirrored entries have equal bits.
+// Whether mirrored entries have equal bits. As floats -0 and 0 would be equal.
+#[tactic(auto, unfolding(crate::specs::Moves::equal_mirror))]
 fn equal_mirror(s: &[u8]) -> bool
     requires { length s.now ≡ 176 }
     ensures { result ≡ moves.equal_mirror s.now }
 {
-    if !same_bits(words::u64_at(s, 88), words::u64_at(s, 104)) {
-        return false;
-    }
-    if !same_bits(words::u64_at(s, 96), words::u64_at(s, 128)) {
-        return false;
-    }
-    same_bits(words::u64_at(s, 120), words::u64_at(s, 136))
+    words::u64_at(s, 88) == words::u64_at(s, 104)
+        && words::u64_at(s, 96) == words::u64_at(s, 128)
+        && words::u64_at(s, 120) == words::u64_at(s, 136)
 }
 
 // Moves a record of 176 bytes to the first 152 of the output: 14 where that is shorter, then the reader's 16 and 18,
 // then 20 where mirrored entries differ.
-pub fn to_archive(bytes: &[u8], out: &mut [u8]) -> u32
-    ensures answer { result ≡ moves.to_archive_answer bytes.now out.old }
+pub fn to_archive(bytes: &[u8], out: &mut [u8]) -> Result<(), Refusal>
+    ensures answer { answer_of result ≡ moves.to_archive_answer bytes.now out.old }
     ensures output { out.new ≡ moves.to_archive_output bytes.now out.old }
 {
     if out.len() < NEW {
-        return refusals::SHORT_OUTPUT;
+        return Err(Refusal::ShortOutput);
     }
-    let reading = reader::read(bytes);
-    if reading.refusal != 0 {
-        return reading.refusal;
-    }
+    reader::check(bytes)?;
     if !equal_mirror(bytes) {
-        return refusals::UNEQUAL_MIRROR;
+        return Err(Refusal::UnequalMirror);
     }
     let moved = new_form(bytes);
     copy(&moved, 0, NEW, out, 0);
-    0
+    Ok(())
 }
 
 // Moves a record of 152 bytes back, to the first 176 of the output: 14 where that is shorter, then 16 where the record
 // has another length, and 18 where the reader does not take its old form apart.
-pub fn from_archive(bytes: &[u8], out: &mut [u8]) -> u32
-    ensures answer { result ≡ moves.from_archive_answer bytes.now out.old }
+pub fn from_archive(bytes: &[u8], out: &mut [u8]) -> Result<(), Refusal>
+    ensures answer { answer_of result ≡ moves.from_archive_answer bytes.now out.old }
     ensures output { out.new ≡ moves.from_archive_output bytes.now out.old }
 {
     if out.len() < OLD {
-        return refusals::SHORT_OUTPUT;
+        return Err(Refusal::ShortOutput);
     }
     if bytes.len() != NEW {
-        return refusals::TORN_FILE;
+        return Err(Refusal::TornFile);
     }
     let old = old_form(bytes);
-    let read = reader::read(&old);
-    if read.refusal != 0 {
-        return read.refusal;
-    }
+    reader::check(&old)?;
     record::store(out, old);
-    0
+    Ok(())
 }

@@ -14,8 +14,9 @@ use Rattle.wire.specs.declared.Wire.{Wire}
 use Rattle.wire.specs.Wire.{between}
 use Rattle.wire.proofs.Reach.{left, right}
 use Rattle.asterix.specs.declared.Multiples.{Multiples}
-use Rattle.asterix.specs.declared.Read.{Read}
-use Rattle.asterix.specs.declared.Read.TheVariants as read
+use Rattle.std.specs.Prelude.{Result, Ok, Err}
+use Rattle.refusals.specs.declared.Refusal.{Refusal}
+use Rattle.refusals.specs.declared.Refusal.TheVariants.{BeyondTheItems}
 use Rattle.asterix.specs.Multiples.{angle, level, turned, of_wire, on_globe}
 use Rattle.asterix.specs.Items.{items, four_at, two_at, multiples_of, fitting, write_answer, write_output}
 use Rattle.asterix.specs.Held.{put_two, put_four, complement}
@@ -26,11 +27,11 @@ use Rattle.asterix.proofs.Ten.{store}
 pub three
     : (s : List ℕ) {x y z : ℤ} → length s ≡ 10 → x ≡ complement (2 ^ 31) (four_at s 0) → y ≡ complement (2 ^ 31) (four_at s 4)
     → z ≡ complement (2 ^ 15) (two_at s 8)
-    → ◌≡◌ {A = Read} (read.Three (record { lat = x; lon = y; height = z })) (read_items s)
+    → ◌≡◌ {A = Result Multiples Refusal} (Ok (record { lat = x; lon = y; height = z })) (read_items s)
 unfolding read_items multiples_of
 three s l a b c = rw (eq-eqb (length s) 10 l, a, b, c)
 
-pub not-ten : (s : List ℕ) → (length s ≡ 10 → ⊥) → ◌≡◌ {A = Read} (read.Refused 23) (read_items s)
+pub not-ten : (s : List ℕ) → (length s ≡ 10 → ⊥) → ◌≡◌ {A = Result Multiples Refusal} (Err BeyondTheItems) (read_items s)
 unfolding read_items
 not-ten s l = rw (ne_eqb (length s) 10 l)
 

@@ -14,8 +14,8 @@ use borrow.Author.Tests.{eq-eqb}
 use Rattle.reader.specs.Meaning.{Bytes}
 use Rattle.wire.proofs.Words.{fits}
 use Rattle.asterix.specs.declared.Multiples.{Multiples}
-use Rattle.asterix.specs.declared.Read.{Read}
-use Rattle.asterix.specs.declared.Read.TheVariants as read
+use Rattle.std.specs.Prelude.{Result, Ok}
+use Rattle.refusals.specs.declared.Refusal.{Refusal}
 use Rattle.asterix.specs.Multiples.{of_wire}
 use Rattle.asterix.specs.Items.{items, four_at, two_at, multiples_of, read_items}
 use Rattle.asterix.specs.Meaning.{ExportsInRange, TenComeBack, MultiplesComeBack}
@@ -72,7 +72,7 @@ ten-back s t h =
       to_z-Fits w16 (two_at s 8) height,
     )
 
-ten-read : (s : List ℕ) → length s ≡ 10 → ◌≡◌ {A = Read} (read_items s) (read.Three (multiples_of s))
+ten-read : (s : List ℕ) → length s ≡ 10 → ◌≡◌ {A = Result Multiples Refusal} (read_items s) (Ok (multiples_of s))
 unfolding read_items
 ten-read s l = rw (eq-eqb (length s) 10 l)
 
@@ -123,8 +123,8 @@ ten-items : (m : Multiples) → length (items m) ≡ 10
 unfolding items
 ten-items m = refl
 
-read_back : (m : Multiples) → SFits w32 m.lat → SFits w32 m.lon → SFits w16 m.height → read_items (items m) ≡ read.Three m
-read_back m x y z = ten-read (items m) (ten-items m) ∙ ap read.Three (three_back m x y z)
+read_back : (m : Multiples) → SFits w32 m.lat → SFits w32 m.lon → SFits w16 m.height → read_items (items m) ≡ Ok m
+read_back m x y z = ten-read (items m) (ten-items m) ∙ ap Ok (three_back m x y z)
 
 pub multiples-come-back : MultiplesComeBack
 multiples-come-back m out x y a =

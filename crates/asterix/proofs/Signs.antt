@@ -8,7 +8,7 @@ use lib.Signed.{lt_z, mag}
 use mir.Syntax.{w32}
 use mir.Val.{SFits, to_z, of_z}
 use mir.ValLaws.{to_z_pos, to_z-of_z}
-use borrow.Author.Tests.{ltb-true, le-ltb, lt-ltb, eq-eqb, ne_eqb}
+use borrow.Author.Tests.{le-ltb, lt-ltb, eq-eqb, ne_eqb}
 use Rattle.wire.specs.Nearest.{signed, half_up, nearest}
 use Rattle.wire.proofs.Distance.{times, nearest-signed}
 use Rattle.asterix.specs.Multiples.{turned}
@@ -20,46 +20,6 @@ back {x} h = to_z-of_z w32 x (record { sfits = h })
 
 pub own_bits : (x : ℤ) {r : ℕ} → mag x < 2 ^ 31 → r ≡ of_z w32 (to_z w32 (of_z w32 x)) → r ≡ of_z w32 x
 own_bits x h e = e ∙ ap (of_z w32) (back {x = x} h)
-
--- ---- below zero -1 - x is from 0 up
-pub record Below (x : ℤ) : Type 0 where
-  pub m : ℕ
-  pub is : x ≡ negsuc m
-  pub small : m < 2 ^ 31
-  pub over : to_z w32 (of_z w32 x) ≡ x
-  pub flipped : negsuc 0 -ℤ to_z w32 (of_z w32 x) ≡ pos m
-  pub fits : SFits w32 (pos m)
-
-pub below : (x : ℤ) → SFits w32 x → lt_z (to_z w32 (of_z w32 x)) (pos 0) ≡ true → Below x
-below x f t = go x f (to_z-of_z w32 x f) (rw (to_z-of_z w32 x f) at t)
-  where
-    flip : (m : ℕ) → negsuc 0 -ℤ negsuc m ≡ pos m
-    flip m = rw (le-ltb (suc m) 1 (omega arith)) (ap pos (let e : suc m - 1 ≡ m = omega arith in e))
-
-    go : (x : ℤ) → SFits w32 x → to_z w32 (of_z w32 x) ≡ x → lt_z x (pos 0) ≡ true → Below x
-    go (pos n) f o t = absurd (omega (arith, ltb-true n 0 t))
-    go (negsuc n) f o t =
-        record {
-          m = n;
-          is = refl;
-          small = f.sfits;
-          over = o;
-          flipped = ap (λ (z : ℤ). negsuc 0 -ℤ z) o ∙ flip n;
-          fits = record { sfits = f.sfits };
-        }
-
-pub record Above (x : ℤ) : Type 0 where
-  pub m : ℕ
-  pub is : x ≡ pos m
-  pub small : m < 2 ^ 31
-  pub over : to_z w32 (of_z w32 x) ≡ pos m
-
-pub above : (x : ℤ) → SFits w32 x → lt_z (to_z w32 (of_z w32 x)) (pos 0) ≡ false → Above x
-above x f t = go x f (to_z-of_z w32 x f) (rw (to_z-of_z w32 x f) at t)
-  where
-    go : (x : ℤ) → SFits w32 x → to_z w32 (of_z w32 x) ≡ x → lt_z x (pos 0) ≡ false → Above x
-    go (pos n) f o t = record { m = n; is = refl; small = f.sfits; over = o }
-    go (negsuc n) f o t = let z : ◌≡◌ {A = ℕ} 0 1 = cc in absurd (omega arith)
 
 -- ---- the nearest multiple by sign and size
 pub by_sign : (w : ℤ) (t d : ℕ) → 0 < d → signed (lt_z w (pos 0)) (half_up (nat_abs w * t) d) ≡ nearest (w *ℤ pos t) d

@@ -1,15 +1,16 @@
 -- Document 02, item 13: items I020/041 (latitude, longitude: 32 bits each) and I020/105 (height: 16 bits), one after
 -- the other, "all big-endian two's complement"; what is written to lent bytes, and what ten bytes are read as.
 -- Definitions only.
-use Rattle.std.specs.Prelude.{ℕ, ◌+◌, ◌*◌, ◌/◌, ◌%◌, ◌^◌, Bool, cond, ◌&&◌, List, [], ◌∷◌, eqb, pos, negsuc, length, get_or}
+use Rattle.std.specs.Prelude.{ℕ, ◌+◌, ◌*◌, ◌/◌, ◌%◌, ◌^◌, Bool, cond, ◌&&◌, List, [], ◌∷◌, eqb, pos, negsuc, length}
+use Rattle.std.specs.Prelude.{get_or, Result, Ok, Err}
 use Rattle.std.specs.Int.{w16, w32}
 use Rattle.std.proofs.Common.{to_z, of_z}
+use Rattle.refusals.specs.declared.Refusal.{Refusal}
+use Rattle.refusals.specs.declared.Refusal.TheVariants.{BeyondTheItems}
 use Rattle.refusals.specs.Refusals.{beyond_the_items}
 use Rattle.wire.specs.declared.Wire.{Wire}
 use Rattle.wire.specs.Wire.{between}
 use Rattle.asterix.specs.declared.Multiples.{Multiples}
-use Rattle.asterix.specs.declared.Read.{Read}
-use Rattle.asterix.specs.declared.Read.TheVariants as read
 use Rattle.asterix.specs.Multiples.{of_wire, on_globe}
 
 -- ---- the ten bytes
@@ -68,6 +69,6 @@ unfolding exportable items of_wire
 to_output w out = cond (exportable w (length out)) (items (of_wire w)) out
 
 -- reading
-unfoldable pub read_items : List ℕ → Read
+unfoldable pub read_items : List ℕ → Result Multiples Refusal
 unfolding multiples_of
-read_items s = cond (eqb (length s) 10) (read.Three (multiples_of s)) (read.Refused beyond_the_items)
+read_items s = cond (eqb (length s) 10) (Ok (multiples_of s)) (Err BeyondTheItems)

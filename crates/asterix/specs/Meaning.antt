@@ -1,6 +1,6 @@
 -- Document 02, item 13: what writing and reading the items come to, in whole numbers. Statements only: proofs/ proves
 -- each.
-use Rattle.std.specs.Prelude.{◌≡◌, true, List, ℕ, ◌+◌, ◌*◌, ◌^◌, ◌<◌, ◌≤◌, ℤ, pos, nat_abs, ◌-ℤ◌, ◌*ℤ◌, length}
+use Rattle.std.specs.Prelude.{◌≡◌, true, List, ℕ, ◌+◌, ◌*◌, ◌^◌, ◌<◌, ◌≤◌, ℤ, pos, nat_abs, ◌-ℤ◌, ◌*ℤ◌, length, Ok}
 use Rattle.std.specs.Int.{w16, w32}
 use Rattle.std.proofs.Common.{SFits}
 use Rattle.refusals.specs.Refusals.{beyond_the_items}
@@ -10,7 +10,6 @@ use Rattle.wire.specs.Meaning.{Nearest}
 use Rattle.wire.specs.Wire.{per_degree}
 use Rattle.wire.specs.declared.Wire.{Wire}
 use Rattle.asterix.specs.declared.Multiples.{Multiples}
-use Rattle.asterix.specs.declared.Read.TheVariants as read
 use Rattle.asterix.specs.Multiples.{half_turn, half_turn_wire, step_mm, angle, level, turned, of_wire}
 use Rattle.asterix.specs.Items.{items, write_answer, write_output, to_answer, to_output, read_items}
 
@@ -76,7 +75,7 @@ pub record InRange (m : Multiples) : Type 0 where
 abbrev pub ExportsInRange : Type 0
 ExportsInRange =
     (w : Wire) (out : List ℕ) → to_answer w out ≡ 0
-    → (read_items (to_output w out) ≡ read.Three (of_wire w)) × InRange (of_wire w)
+    → (read_items (to_output w out) ≡ Ok (of_wire w)) × InRange (of_wire w)
 
 -- ---- there and back
 
@@ -85,10 +84,10 @@ ExportsInRange =
 abbrev pub TenComeBack : Type 0
 TenComeBack =
     (s out : List ℕ) → Bytes s → length s ≡ 10 → length out ≡ 10
-    → (m : Multiples) × (read_items s ≡ read.Three m) × (write_answer m out ≡ 0) × (write_output m out ≡ s)
+    → (m : Multiples) × (read_items s ≡ Ok m) × (write_answer m out ≡ 0) × (write_output m out ≡ s)
 
 -- and multiples that are written are read as the same
 abbrev pub MultiplesComeBack : Type 0
 MultiplesComeBack =
     (m : Multiples) (out : List ℕ) → SFits w32 m.lat → SFits w32 m.lon → write_answer m out ≡ 0
-    → read_items (write_output m out) ≡ read.Three m
+    → read_items (write_output m out) ≡ Ok m

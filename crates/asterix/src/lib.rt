@@ -5,12 +5,14 @@
 ghost use Rattle.std.specs.Prelude.{◌≡◌, ◌+◌, ◌*◌, ◌%◌, ◌^◌, ◌<◌, ◌≤◌, nat_abs, pos, ◌*ℤ◌, length};
 ghost use Rattle.std.specs.Int.{w32};
 ghost use Rattle.std.proofs.Common.{of_z};
+ghost use Rattle.refusals.specs.Refusals.{answer_of};
 ghost use Rattle.wire.specs.Nearest as fractions;
 ghost use Rattle.asterix.specs.Multiples.{angle, level, turned, of_wire, on_globe};
 ghost use Rattle.asterix.specs.Items.{four_at, two_at, fitting};
 ghost use Rattle.asterix.specs.Held.{put_two, put_four, complement};
 ghost use Rattle.asterix.specs.Items.{write_answer, write_output, to_answer, to_output, read_items};
 
+use refusals::Refusal;
 use wire::Wire;
 
 // The bytes of the two items.
@@ -37,20 +39,10 @@ pub struct Multiples {
     pub height: i32,
 }
 
-// The multiples of ten bytes, or the number of the refusal, which is 23.
-#[derive(Clone, Copy)]
-pub enum Read {
-    Three(Multiples),
-    Refused(u32),
-}
-
 fn size(w: i32) -> u64
     ensures { (result ≡ nat_abs w) × (result ≤ 2 ^ 31) }
 {
-    if w < 0 {
-        return (-1 - w) as u64 + 1;
-    }
-    w as u64
+    w.unsigned_abs() as u64
 }
 
 // The whole number nearest to n / den, a half up.
@@ -106,22 +98,20 @@ fn of_wire(w: Wire) -> Multiples
 }
 
 // Whether latitude is not beyond ±90 degrees and longitude not beyond ±180.
+#[tactic(auto, unfolding(crate::specs::Multiples::on_globe))]
 fn on_globe(w: Wire) -> bool
     ensures { result ≡ on_globe w }
 {
-    let lat = wire::between(-900_000_000, 900_000_000, w.lat);
-    wire::both(lat, wire::between(-1_800_000_000, 1_800_000_000, w.lon))
+    let lat = -900_000_000 <= w.lat && w.lat <= 900_000_000;
+    let lon = -1_800_000_000 <= w.lon && w.lon <= 1_800_000_000;
+    lat && lon
 }
 
 // The bits of x in two's complement.
 fn bits(x: i32) -> u32
     ensures { result ≡ of_z w32 x }
 {
-    if x < 0 {
-        let below = -1 - x;
-        return 0xffff_ffff - below as u32;
-    }
-    x as u32
+    x.cast_unsigned()
 }
 
 // The number whose bits in two's complement are n, where `half` is the sign's weight.
@@ -179,50 +169,51 @@ fn put_four(s: &mut [u8], k: usize, x: u32)
 }
 
 // Whether `len` bytes are ten, and 16 bits hold the height.
+#[tactic(auto, unfolding(crate::specs::Items::fitting))]
 fn fitting(m: Multiples, len: usize) -> bool
     ensures { result ≡ fitting m len }
 {
-    wire::both(len == LENGTH, wire::between(-32_768, 32_767, m.height))
+    len == LENGTH && -32_768 <= m.height && m.height <= 32_767
 }
 
 // Writes three multiples as the ten bytes of the items, whatever the place: 23 where another length is
 // lent or the height is outside 16 bits; then `out` stays.
-pub fn write_asterix(m: Multiples, out: &mut [u8]) -> u32
-    ensures answer { result ≡ write_answer m out.old }
+pub fn write_asterix(m: Multiples, out: &mut [u8]) -> Result<(), Refusal>
+    ensures answer { answer_of result ≡ write_answer m out.old }
     ensures output { out.new ≡ write_output m out.old }
 {
-    if fitting(m, out.len()) {
-        put_four(out, 0, bits(m.lat));
-        put_four(out, 4, bits(m.lon));
-        put_two(out, 8, bits(m.height));
-        return 0;
+    if !fitting(m, out.len()) {
+        return Err(Refusal::BeyondTheItems);
     }
-    refusals::BEYOND_THE_ITEMS
+    put_four(out, 0, bits(m.lat));
+    put_four(out, 4, bits(m.lon));
+    put_two(out, 8, bits(m.height));
+    Ok(())
 }
 
 // Writes the wire's numbers as the ten bytes of the items: 23 where another length is lent, latitude is
 // beyond ±90 or longitude beyond ±180 degrees, or the height's multiple is outside 16 bits; then `out`
 // stays.
-pub fn to_asterix(w: Wire, out: &mut [u8]) -> u32
-    ensures answer { result ≡ to_answer w out.old }
+pub fn to_asterix(w: Wire, out: &mut [u8]) -> Result<(), Refusal>
+    ensures answer { answer_of result ≡ to_answer w out.old }
     ensures output { out.new ≡ to_output w out.old }
 {
     if !on_globe(w) {
-        return refusals::BEYOND_THE_ITEMS;
+        return Err(Refusal::BeyondTheItems);
     }
     write_asterix(of_wire(w), out)
 }
 
 // The three multiples of whichever ten bytes: 23 for another length.
-pub fn read_asterix(s: &[u8]) -> Read
+pub fn read_asterix(s: &[u8]) -> Result<Multiples, Refusal>
     ensures { result ≡ read_items s.now }
 {
-    if s.len() == LENGTH {
-        return Read::Three(Multiples {
-            lat: from_bits(four_at(s, 0), SIGN_OF_FOUR),
-            lon: from_bits(four_at(s, 4), SIGN_OF_FOUR),
-            height: from_bits(two_at(s, 8), SIGN_OF_TWO),
-        });
+    if s.len() != LENGTH {
+        return Err(Refusal::BeyondTheItems);
     }
-    Read::Refused(refusals::BEYOND_THE_ITEMS)
+    Ok(Multiples {
+        lat: from_bits(four_at(s, 0), SIGN_OF_FOUR),
+        lon: from_bits(four_at(s, 4), SIGN_OF_FOUR),
+        height: from_bits(two_at(s, 8), SIGN_OF_TWO),
+    })
 }

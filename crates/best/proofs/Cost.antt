@@ -18,11 +18,14 @@ use Rattle.problem.specs.Problem.{four}
 use Rattle.whitening.specs.declared.Equations.{Equations}
 use Rattle.whitening.specs.Whitened.{Chosen, Rows, whitened}
 use Rattle.whitening.specs.Normal.{plus_multiple, normal_to, evaluated}
+use Rattle.std.specs.Prelude.{Option, None, Some}
+use Rattle.std.proofs.lemmas.Option.{none-some, same_Some}
 use Rattle.damped.specs.declared.Fit.{Fit}
 use Rattle.damped.specs.declared.Lm.{Lm}
 use Rattle.damped.specs.declared.Stepped.{Stepped}
-use Rattle.damped.specs.declared.Verdict.TheVariants.{Accepted, Converged, Rejected, Stopped, Failed}
-use Rattle.damped.specs.Damped.{damped_to, solved, descent, candidate, below, small, better, accepted, rejected, step, fitted, unfitted, plain, after}
+use Rattle.damped.specs.declared.Verdict.TheVariants.{Accepted, Converged, Rejected, Stopped}
+use Rattle.damped.specs.Damped.{damped_to, solved, descent, candidate, below, small, better, accepted, rejected, stepped, step, fitted, unfitted}
+use Rattle.damped.specs.Damped.{settled, plain, after}
 use Rattle.damped.specs.Damped.{run}
 use Rattle.damped.specs.Damped.{started, levenberg_marquardt}
 use Rattle.binary64.proofs.Clear.{clear, add-clear, square-clear}
@@ -72,15 +75,16 @@ none-small x e h =
     subst (λ (v : Float). T (below v)) e (and_r (below (nth x 2)) (below (nth x 3))
     (and_r (below (nth x 1)) (below (nth x 2) && below (nth x 3)) last))
 
-descent-none : (m g : List Float) → nth g 3 ≡ nan → T ((descent m g).ok && small (descent m g).x) → ⊥
+descent-none : (m g x : List Float) → nth g 3 ≡ nan → descent m g ≡ Some x → T (small x) → ⊥
 unfolding descent neg
-descent-none m g e h = go (cholesky m 4 (replicate 16 nought)) h
+descent-none m g x e h = go (cholesky m 4 (replicate 16 nought)) h
   where
-    go : (F : Factor) → T ((solved F (four (λ i. neg (nth g i)))).ok && small (solved F (four (λ i. neg (nth g i)))).x) → ⊥
-    go (refused l) k = k
-    go (found l) k = none-small (solve l 4 (four (λ i. neg (nth g i))))
-        (ap (λ (x : Float). nth (solve l 4 (neg (nth g 0) ∷ neg (nth g 1) ∷ neg (nth g 2) ∷ neg x ∷ [])) 3) e
-        ∙ solve-none l (neg (nth g 0)) (neg (nth g 1)) (neg (nth g 2))) k
+    go : (F : Factor) → solved F (four (λ i. neg (nth g i))) ≡ Some x → T (small x) → ⊥
+    go (refused l) q k = none-some x q
+    go (found l) q k = none-small (solve l 4 (four (λ i. neg (nth g i))))
+        (ap (λ (v : Float). nth (solve l 4 (neg (nth g 0) ∷ neg (nth g 1) ∷ neg (nth g 2) ∷ neg v ∷ [])) 3) e
+        ∙ solve-none l (neg (nth g 0)) (neg (nth g 1)) (neg (nth g 2)))
+        (subst (λ (y : List Float). T (small y)) (sym (same_Some (solve l 4 (four (λ i. neg (nth g i)))) x q)) k)
 
 -- ---- the run
 abbrev Number : Fit → Type 0
@@ -98,13 +102,16 @@ better-finite next cost e = and_l (is_finite next) (le next cost) (subst T (sym 
 
 plain-number : (s : Lm) → Fine s.cost s.gradient → Number (plain s)
 unfolding plain
-plain-number s f = go ((descent s.information s.gradient).ok && small (descent s.information s.gradient).x) f
-    (λ e. descent-none s.information s.gradient e)
+plain-number s f = go (descent s.information s.gradient) refl
   where
-    go : (b : Bool) → Fine s.cost s.gradient → (nth s.gradient 3 ≡ nan → T b → ⊥) → Number (cond b (fitted s) unfitted)
-    go false f never h = absurd h
-    go true (inl c) never h = clear-number s.cost c
-    go true (inr e) never h = absurd (never e tt)
+    held : (b : Bool) → Fine s.cost s.gradient → (nth s.gradient 3 ≡ nan → T b → ⊥) → Number (cond b (fitted s) unfitted)
+    held false f never h = absurd h
+    held true (inl c) never h = clear-number s.cost c
+    held true (inr e) never h = absurd (never e tt)
+
+    go : (o : Option (List Float)) → descent s.information s.gradient ≡ o → Number (settled s o)
+    go None q h = absurd h
+    go (Some x) q h = held (small x) f (λ e. descent-none s.information s.gradient x e q) h
 
 module _ (C : Chosen) (n : ℕ) (more : (s : Lm) → Fine s.cost s.gradient → Number (run C n s)) where
   abbrev Goes : Stepped → Type 0
@@ -132,20 +139,16 @@ module _ (C : Chosen) (n : ℕ) (more : (s : Lm) → Fine s.cost s.gradient → 
 
   step-goes : (s : Lm) → Fine s.cost s.gradient → Goes (step C s)
   unfolding step
-  step-goes s f = go (descent (damped_to s.information s.lambda 4) s.gradient).ok
-      (descent (damped_to s.information s.lambda 4) s.gradient).x
+  step-goes s f = go (descent (damped_to s.information s.lambda 4) s.gradient)
     where
       judge : (b : Bool) (x p : List Float) → better (evaluated C p).cost s.cost ≡ b
           → Goes (cond b (accepted s.lambda x p (evaluated C p)) (rejected s))
       judge true x p e = accepted-goes s.lambda x p (evaluated C p) (evaluated-fine C p) (better-finite (evaluated C p).cost s.cost e)
       judge false x p e = rejected-goes s f
 
-      go : (b : Bool) (x : List Float) → Goes (cond b
-          (cond (better (evaluated C (candidate s.params x)).cost s.cost)
-          (accepted s.lambda x (candidate s.params x) (evaluated C (candidate s.params x))) (rejected s))
-          (record { state = s; verdict = Failed }))
-      go true x = judge (better (evaluated C (candidate s.params x)).cost s.cost) x (candidate s.params x) refl
-      go false x = λ h. absurd h
+      go : (o : Option (List Float)) → Goes (stepped C s o)
+      go (Some x) = judge (better (evaluated C (candidate s.params x)).cost s.cost) x (candidate s.params x) refl
+      go None = λ h. absurd h
 
 run-number : (C : Chosen) (n : ℕ) (s : Lm) → Fine s.cost s.gradient → Number (run C n s)
 unfolding run

@@ -1,13 +1,15 @@
 -- The best, as an index that code holds, and what is made of it. Assumes nothing.
 use mathlib.Core.Path.{◌≡◌, refl, sym, ap, ap₂, subst, ◌∙◌}
-use mathlib.Core.Option.{Option, none, some}
+use mathlib.Core.Option as maybe
+use mathlib.Core.Option.{some}
 use mathlib.Core.Bool.{Bool, true, false, ◌&&◌}
 use mathlib.Core.List.{List, map}
-use Prim.Native.Nat.{ℕ, ◌≤◌, ◌<◌}
+use Prim.Native.Nat.{ℕ}
 use lib.Dec.{T, ltb}
 use lib.ListN.{length}
 use lib.Ieee.{Float}
 use lib.Ieee.Bits.{is_true}
+use Rattle.std.specs.Prelude.{Some, Ok, Err}
 use Rattle.geo.specs.Geo.{from_ecef}
 use Rattle.geo.specs.declared.Geodetic.{Geodetic}
 use Rattle.dense.specs.Factor as factor
@@ -22,81 +24,60 @@ use Rattle.whitening.specs.Whitened as whitening
 use Rattle.limits.specs.Limits.{rounding_norm}
 use Rattle.sets.specs.Sets.{Subset, count}
 use Rattle.sets.specs.Choice.{choose}
-use Rattle.sets.specs.Held.{index_of}
 use Rattle.sets.proofs.Tests.{and_l}
-use Rattle.sets.proofs.Choosing.{chosen-some, chosen_none, chosen-below}
 use Rattle.damped.specs.declared.Fit.{Fit}
 use Rattle.damped.specs.Damped.{levenberg_marquardt}
 use Rattle.best.specs.declared.Unfit.{Unfit}
-use Rattle.best.specs.declared.Unfit.TheVariants.{NoConvergence, OutOfRange, Ambiguous, Singular}
-use Rattle.best.specs.declared.BestAt.{BestAt}
+use Rattle.best.specs.declared.Unfit.TheVariants.{Ambiguous, Singular}
 use Rattle.best.specs.Plausible.{plausible}
 use Rattle.best.specs.Best.{Outcome, gives, refuses, explains_alike, fit_at, cheaper, any_fit, weighed, rival, best_of, judged, best, with_whitener}
-use Rattle.best.specs.Held.{norm_at, as_best_at, array_of, as_best, best_fit}
+use Rattle.best.specs.Held.{norm_at, as_best_at, array_of, best_fit}
+use Rattle.best.proofs.Passes.{choice, chosen-some}
 use Rattle.best.proofs.Cheapest as cheapest
-
--- the best, or why there is none, beside a place and a norm
-abbrev held_at : Outcome Unfit Fit → Geodetic → Float → BestAt
-held_at o g x = record { best = as_best o; place = g; norm = x }
 
 pub norm-is : (C : Chosen) (params : List Float) (m : ℕ) (r a b c d : List Float) → rows m r a b c d ≡ whitening.whitened C params
     → rounding_norm a b c d m ≡ norm_at C params
 norm-is C params m r a b c d h = ap (λ (w : Rows). rounding_norm w.a w.b w.c w.d w.count) h
 
--- what the code holds of the fits: how many they are, the set S of those that are weighed, and the index of the best, which is 32 for none
-pub record Held (sites : List Float) (k : ℕ) (fits : List Fit) (n top : ℕ) (S : Subset) : Type 0 where
-  pub few : n ≤ 32
-  pub all : length fits ≡ n
-  pub set : S ≡ (λ i. weighed sites k (fit_at fits i))
-  pub index : top ≡ index_of (choose S (cheaper fits) n)
-
-module _ {sites : List Float} {k : ℕ} {fits : List Fit} {n top : ℕ} {S : Subset} (held : Held sites k fits n top S) where
+-- n fits, and the set S of those that are weighed
+module _ (sites : List Float) (k : ℕ) (fits : List Fit) (n : ℕ) (all : length fits ≡ n) (S : Subset)
+    (set : S ≡ (λ i. weighed sites k (fit_at fits i))) where
   abbrev answer : Outcome Unfit Fit
   answer = judged sites k fits (best_of sites k fits)
 
-  chosen_is : (o : Option ℕ) → choose S (cheaper fits) n ≡ o → best_of sites k fits ≡ o
-  chosen_is o e = ap₂ (λ (R : Subset) (m : ℕ). choose R (cheaper fits) m) (sym held.set) held.all ∙ e
+  chosen_is : (o : maybe.Option ℕ) → choose S (cheaper fits) n ≡ o → best_of sites k fits ≡ o
+  chosen_is o e = ap₂ (λ (R : Subset) (m : ℕ). choose R (cheaper fits) m) (sym set) all ∙ e
 
-  some_is : top < 32 → best_of sites k fits ≡ some top
-  some_is h = chosen_is (some top) (chosen-some S (cheaper fits) n top held.few held.index h)
+  -- the index of the best
+  module _ (top : ℕ) (h : Some top ≡ choice S fits n) where
+    some_is : best_of sites k fits ≡ some top
+    some_is = chosen_is (some top) (chosen-some (choose S (cheaper fits) n) top h)
 
-  none_is : 32 ≤ top → best_of sites k fits ≡ none
-  none_is h = chosen_is none (chosen_none S (cheaper fits) n top held.few held.index h)
+    -- it is weighed, so it converged
+    pub top-converged : (fit_at fits top).ok ≡ true
+    top-converged =
+        let t = (cheapest.chosen S (cheaper fits) n top (chosen-some (choose S (cheaper fits) n) top h)).0 in
+        is_true (fit_at fits top).ok (and_l (fit_at fits top).ok (plausible sites k (fit_at fits top).params)
+        (subst (λ (R : Subset). T (R top)) set t))
 
-  pub below : top < 32 → top < n
-  below h = chosen-below S (cheaper fits) n top held.few held.index h
+    module _ (r : Bool) (fit : Fit) (f : fit ≡ fit_at fits top)
+        (e : r ≡ ltb 0 (count (λ i. S i && explains_alike fit (fit_at fits i)) n)) where
+      rivalled : r ≡ any_fit (rival sites k (fit_at fits top)) fits
+      rivalled =
+          e ∙ ap₂ (λ (R : Subset) (m : ℕ). ltb 0 (count (λ i. R i && explains_alike fit (fit_at fits i)) m)) set (sym all)
+          ∙ ap (λ (x : Fit). any_fit (rival sites k x) fits) f
 
-  -- it is weighed, so it converged
-  pub top-converged : top < 32 → (fit_at fits top).ok ≡ true
-  top-converged h =
-      let t = (cheapest.chosen S (cheaper fits) n top (chosen-some S (cheaper fits) n top held.few held.index h)).0 in
-      is_true (fit_at fits top).ok (and_l (fit_at fits top).ok (plausible sites k (fit_at fits top).params)
-      (subst (λ (R : Subset). T (R top)) held.set t))
+      pub ambiguous : r ≡ true → refuses Ambiguous ≡ answer
+      ambiguous g = rw (some_is, ← rivalled, g)
 
-  module _ (r : Bool) (h : top < 32) (fit : Fit) (f : fit ≡ fit_at fits top)
-      (e : r ≡ ltb 0 (count (λ i. S i && explains_alike fit (fit_at fits i)) n)) where
-    rivalled : r ≡ any_fit (rival sites k (fit_at fits top)) fits
-    rivalled =
-        e ∙ ap₂ (λ (R : Subset) (m : ℕ). ltb 0 (count (λ i. R i && explains_alike fit (fit_at fits i)) m)) held.set (sym held.all)
-        ∙ ap (λ (x : Fit). any_fit (rival sites k x) fits) f
+      pub alone : r ≡ false → gives fit ≡ answer
+      alone g = rw (some_is, ← rivalled, g) (ap gives f)
 
-    pub ambiguous : r ≡ true → refuses Ambiguous ≡ answer
-    ambiguous g = rw (some_is h, ← rivalled, g)
-
-    pub alone : r ≡ false → gives fit ≡ answer
-    alone g = rw (some_is h, ← rivalled, g) (ap gives f)
-
-    -- beside it its place and its norm
-    pub alone_at : r ≡ false → (C : Chosen) (g : Geodetic) (x : Float) → g ≡ from_ecef (position fit.params) → x ≡ norm_at C fit.params
-        → held_at (gives fit) g x ≡ as_best_at C answer
-    alone_at q C g x e n = ap₂ (held_at (gives fit)) e n ∙ ap (as_best_at C) (alone q)
-
-  module _ (r : Bool) (h : 32 ≤ top) (e : r ≡ any_fit (λ fit. fit.ok) fits) where
-    pub out-of-range : r ≡ true → refuses OutOfRange ≡ answer
-    out-of-range g = rw (none_is h, ← e, g)
-
-    pub no-convergence : r ≡ false → refuses NoConvergence ≡ answer
-    no-convergence g = rw (none_is h, ← e, g)
+      -- beside it its place and its norm
+      pub alone_at : r ≡ false → (C : Chosen) (g : Geodetic) (x : Float) → g ≡ from_ecef (position fit.params) → x ≡ norm_at C fit.params
+          → Ok (record { fit = fit; place = g; norm = x }) ≡ as_best_at C answer
+      alone_at q C g x e n =
+          ap₂ (λ (h : Geodetic) (y : Float). Ok (record { fit = fit; place = h; norm = y })) e n ∙ ap (as_best_at C) (alone q)
 
 -- ---- the whitener first, whose answer the code holds as a flag b beside the array l
 module _ (clock : List Float) (n : ℕ) (noise : List Float) (index : List ℕ) (sites z : List Float) (k : ℕ) (altitude : Altitude)
@@ -132,5 +113,5 @@ module _ (clock : List Float) (n : ℕ) (noise : List Float) (index : List ℕ) 
       → as_best_at (chosen k sites z l altitude) (judged sites k fits (best_of sites k fits)) ≡ as_best_at heard outcome
   whitened-found t fits f = ap₂ as_best_at (ap (λ (w : List Float). chosen k sites z w altitude) (array-of b ∙ ap array_of e)) (told-found t fits f)
 
-  pub whitened-refused : b ≡ false → (r : BestAt) → ((C : Chosen) → r ≡ as_best_at C (refuses Singular)) → r ≡ as_best_at heard outcome
-  whitened-refused t r f = f heard ∙ ap (as_best_at heard) (told-refused t)
+  pub whitened-refused : b ≡ false → Err Singular ≡ as_best_at heard outcome
+  whitened-refused t = ap (as_best_at heard) (told-refused t)

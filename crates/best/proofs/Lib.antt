@@ -3,6 +3,7 @@ pub mod Constants
 pub mod Squares
 pub mod Order
 pub mod Passes
+pub mod Ranges
 pub mod Judging
 pub mod Cost
 pub mod Zeros

@@ -3,21 +3,23 @@ use mathlib.Core.Path.{◌≡◌, refl, sym, ap, ap₂, subst, fun_ext, ◌∙�
 use mathlib.Core.Logic.{◌⊎◌, inl, inr}
 use mathlib.Core.Bool.{Bool, true, false, not, cond, ◌&&◌, ◌||◌}
 use mathlib.Core.List.{List, [], ◌∷◌, ◌++◌, map, map-append}
+use mathlib.Core.Option as maybe
+use mathlib.Core.Option.{none, some}
 use Prim.Native.Nat.{ℕ, zero, suc, ◌+◌, ◌-◌, ◌≤◌, ◌<◌, min}
 use native.Mathlib.Omega.{arith}
 use native.Mathlib.Numerals.{add-one}
-use lib.Dec.{T, ltb, leb, eqb, ltb→lt, nltb→le}
-use lib.ListN.{length, get_or, set, take, replicate, length-map, length-take, get_or-eq_default, get_or-map, get_or-append}
+use lib.Dec.{T, ltb, eqb, ltb→lt, nltb→le}
+use lib.ListN.{length, get_or, set, take, replicate, length-map, length-take, get_or-eq_default, get_or-map}
 use lib.Seq.{append_snoc, set-append_seam, take_at, get_or-take}
-use lib.Ieee.{Float, le}
-use borrow.Author.Tests.{le-leb, lt-ltb, eq-eqb, ne_eqb}
+use lib.Ieee.{Float}
+use borrow.Author.Tests.{lt-ltb, eq-eqb, ne_eqb}
+use Rattle.std.specs.Prelude.{Option, None, Some, IfSome, MatchOption}
+use Rattle.std.proofs.lemmas.Option.{none-some, same_Some}
 use Rattle.sets.specs.Sets.{Subset, joined, count}
 use Rattle.sets.specs.Mask.{has}
-use Rattle.sets.specs.Choice.{choose}
-use Rattle.sets.specs.Held.{index_of}
+use Rattle.sets.specs.Choice.{consider, choose}
 use Rattle.sets.proofs.Tests.{either}
 use Rattle.sets.proofs.Digits.{has-zero}
-use Rattle.sets.proofs.Choosing.{choice-turn}
 use Rattle.geo.specs.Geo.{from_ecef}
 use Rattle.geo.specs.Held.{nowhere}
 use Rattle.problem.specs.Problem.{position}
@@ -27,7 +29,9 @@ use Rattle.damped.specs.Damped.{unfitted}
 use Rattle.damped.specs.Held.{placed}
 use Rattle.starts.specs.Held.{point}
 use Rattle.best.specs.Best.{fit_at, cheaper}
+use Rattle.sets.specs.Held.{option_of}
 use Rattle.best.specs.Held.{fits_of, placed_at, EachPlaced, points_to}
+use Rattle.best.proofs.Cheapest as cheapest
 use Rattle.best.proofs.Listing.{points-length}
 
 -- what lies past the last of a list of fits
@@ -38,7 +42,7 @@ or-true : (a : Bool) → (a || true) ≡ true
 or-true true = refl
 or-true false = refl
 
-or-false : (a : Bool) → (a || false) ≡ a
+pub or-false : (a : Bool) → (a || false) ≡ a
 or-false true = refl
 or-false false = refl
 
@@ -51,17 +55,9 @@ any-turn S i = go (S i) refl ∙ ap (λ (x : ℕ). ltb 0 (count S x)) (sym (add-
     go true e = rw e (or-true (ltb 0 (count S i)) ∙ sym (lt-ltb 0 (1 + count S i) (omega arith)))
     go false e = let z : count S i ≡ 0 + count S i = omega arith in rw e (or-false (ltb 0 (count S i)) ∙ ap (ltb 0) z)
 
--- the same, of what a loop holds: b of the indices below i, t of i, and r of both
-pub any_next : (S : Subset) (i : ℕ) (b t r : Bool) → b ≡ ltb 0 (count S i) → t ≡ S i → r ≡ (b || t) → r ≡ ltb 0 (count S (i + 1))
-any_next S i b t r e f g = g ∙ ap₂ (λ (x y : Bool). x || y) e f ∙ any-turn S i
-
 -- the i-th of the fits alone
 pub fit-at : (fits : List Placed) (i : ℕ) → fit_at (fits_of fits) i ≡ (placed_at fits i).fit
 fit-at fits i = get_or-map (λ (x : Placed). x.fit) fits i (placed_at [] 0)
-
--- of the first n of them
-pub fit-front : (fits : List Placed) (n i : ℕ) → i < n → (placed_at fits i).fit ≡ fit_at (take n (fits_of fits)) i
-fit-front fits n i h = sym (get_or-take n (fits_of fits) i nothing h ∙ fit-at fits i)
 
 -- ---- the fits from the first i starts with their places, and none past them in 18 places
 module _ (f : List Float → Placed) (at : List Float) where
@@ -88,12 +84,13 @@ module _ (f : List Float → Placed) (at : List Float) where
   alone [] = refl
   alone (x ∷ xs) = ap (λ (fs : List Fit). (f x).fit ∷ fs) (alone xs)
 
-  -- the fits alone of the first i
-  pub fits-front : (i : ℕ) (fits : List Placed) → fits ≡ fits_to i → take i (fits_of fits) ≡ map (λ (x : List Float). (f x).fit) (points_to at i)
-  fits-front i fits e =
-      let rest : List Placed = replicate (18 - i) (placed unfitted) in
-      ap (λ (fs : List Placed). take i (fits_of fs)) e ∙ ap (take i) (map-append (λ (x : Placed). x.fit) (made i) rest)
-      ∙ take_at (fits_of (made i)) (fits_of rest) i (length-map (made i) (λ (x : Placed). x.fit) ∙ made-length i) ∙ alone (points_to at i)
+  -- they are the first i of the 18
+  front : (i : ℕ) (fits : List Placed) → fits ≡ fits_to i → take i fits ≡ made i
+  front i fits e = ap (take i) e ∙ take_at (made i) (replicate (18 - i) (placed unfitted)) i (made-length i)
+
+  -- the fits alone
+  pub fits-front : (i : ℕ) (fits : List Placed) → fits ≡ fits_to i → fits_of (take i fits) ≡ map (λ (x : List Float). (f x).fit) (points_to at i)
+  fits-front i fits e = ap fits_of (front i fits e) ∙ alone (points_to at i)
 
   mapped : (xs : List (List Float)) (d : Placed) (j : ℕ) → j < length xs → get_or (map f xs) j d ≡ f (get_or xs j [])
   mapped [] d j h = absurd (omega arith)
@@ -101,12 +98,11 @@ module _ (f : List Float → Placed) (at : List Float) where
   mapped (x ∷ xs) d (suc j) h = mapped xs d j (omega arith)
 
   -- beside each of them stands its place, if f gives it
-  pub fits-placed : (i : ℕ) (fits : List Placed) → fits ≡ fits_to i → ((x : List Float) → f x ≡ placed (f x).fit) → EachPlaced fits i
+  pub fits-placed : (i : ℕ) (fits : List Placed) → fits ≡ fits_to i → ((x : List Float) → f x ≡ placed (f x).fit) → EachPlaced (take i fits)
   fits-placed i fits e own j h =
-      let within : j < length (made i) = subst (λ (m : ℕ). j < m) (sym (made-length i)) h in
-      let listed : j < length (points_to at i) = subst (λ (m : ℕ). j < m) (sym (points-length at i)) h in
-      let is : placed_at fits j ≡ f (get_or (points_to at i) j []) = ap (λ (fs : List Placed). placed_at fs j) e
-      ∙ get_or-append (made i) (replicate (18 - i) (placed unfitted)) (placed_at [] 0) j within
+      let within : j < length (made i) = subst (λ (fs : List Placed). j < length fs) (front i fits e) h in
+      let listed : j < length (points_to at i) = subst (λ (m : ℕ). j < m) (length-map (points_to at i) f) within in
+      let is : placed_at (take i fits) j ≡ f (get_or (points_to at i) j []) = ap (λ (fs : List Placed). placed_at fs j) (front i fits e)
       ∙ mapped (points_to at i) (placed_at [] 0) j listed in
       is ∙ own (get_or (points_to at i) j []) ∙ ap (λ (x : Placed). placed x.fit) (sym is)
 
@@ -153,31 +149,54 @@ module _ (p : Fit → Bool) (none : p nothing ≡ false) (fits : List Fit) where
           let d : j ≡ i = omega (arith, nltb→le j i g, nltb→le i j q) in
           rw d (past i i (omega arith) ∙ sym e ∙ sym (before (i + 1) i (omega arith)))
 
--- ---- the choice: the index so far, or 32, and its cost beside it
+-- ---- the choice, as code holds it
+pub chosen-some : (o : maybe.Option ℕ) (w : ℕ) → Some w ≡ option_of o → o ≡ some w
+chosen-some none w e = absurd (none-some w (sym e))
+chosen-some (some i) w e = ap some (sym (same_Some w i e))
+
 module _ (S : Subset) (fits : List Fit) where
-  pub record Top (i top : ℕ) (least : Float) : Type 0 where
-    pub index : top ≡ index_of (choose S (cheaper fits) i)
-    pub cost : top < 32 → least ≡ (fit_at fits top).cost
+  abbrev pub choice : ℕ → Option ℕ
+  choice i = option_of (choose S (cheaper fits) i)
 
-  pub top_start : (least : Float) → Top 0 32 least
+  pub choice_start : None ≡ choice 0
   unfolding choose
-  top_start least = record { index = refl; cost = λ h. absurd (omega arith) }
+  choice_start = refl
 
-  module _ (i top : ℕ) (least cost : Float) (h : i < 32) (e : cost ≡ (fit_at fits i).cost) (t : Top i top least) (r : Bool)
-      (f : r ≡ (S i && (leb 32 top || not (le least cost)))) where
-    -- the code's test of least and cost is the definition's
-    tested : r ≡ (S i && (leb 32 top || cheaper fits i top))
-    tested = f ∙ elim (either (ltb top 32)) [
-      | inl l ↦ ap₂ (λ (x y : Float). S i && (leb 32 top || not (le x y))) (t.cost (ltb→lt top 32 l)) e
-      | inr l ↦ let none = le-leb 32 top (nltb→le top 32 l) in
-          ap (λ (x : Bool). S i && (x || not (le least cost))) none ∙ sym (ap (λ (x : Bool). S i && (x || cheaper fits i top)) none)
-    ]
+  -- of the first i
+  pub choice-below : (i w : ℕ) → Some w ≡ choice i → w < i
+  choice-below i w e = (cheapest.chosen S (cheaper fits) i w (chosen-some (choose S (cheaper fits) i) w e)).1
 
-    turn : (b : Bool) → r ≡ b → cond b i top ≡ index_of (choose S (cheaper fits) (i + 1))
-    turn b g = choice-turn S (cheaper fits) i top (omega arith) t.index (cond b i top) (ap (λ (x : Bool). cond x i top) (sym g ∙ tested))
+  pub all-below : (i n : ℕ) (top : Option ℕ) → i ≤ n → top ≡ choice i → IfSome top (λ (w : ℕ). w < n)
+  all-below i n None h e = tt
+  all-below i n (Some w) h e = let l : w < i = choice-below i w e in omega arith
 
-    pub top_taken : r ≡ true → Top (i + 1) i cost
-    top_taken g = record { index = turn true g; cost = λ l. e }
+  -- one more: r says whether it takes the place of the top
+  module _ (i : ℕ) (top : Option ℕ) (e : top ≡ choice i) where
+    turn : (r : Bool) → MatchOption top (r ≡ true) (λ (w : ℕ). r ≡ cheaper fits i w) → cond (S i && r) (Some i) top ≡ choice (i + 1)
+    unfolding choose consider
+    turn r m = go (S i) refl (choose S (cheaper fits) i) refl top e m
+      where
+        picked : (c : Bool) (k : ℕ) → cond c (Some i) (Some k) ≡ option_of (cond c (some i) (some k))
+        picked true k = refl
+        picked false k = refl
 
-    pub top_left : r ≡ false → Top (i + 1) top least
-    top_left g = record { index = turn false g; cost = t.cost }
+        go : (t : Bool) → S i ≡ t → (o : maybe.Option ℕ) → choose S (cheaper fits) i ≡ o → (w : Option ℕ) → w ≡ choice i
+            → MatchOption w (r ≡ true) (λ (j : ℕ). r ≡ cheaper fits i j) → cond (t && r) (Some i) w ≡ choice (i + 1)
+        go false f o q w h n = rw (add-one i, f) h
+        go true f none q None h n = rw (add-one i, f, q, n) refl
+        go true f none q (Some j) h n = absurd (none-some j (sym (h ∙ ap option_of q)))
+        go true f (some b) q None h n = absurd (none-some b (h ∙ ap option_of q))
+        go true f (some b) q (Some j) h n =
+            let same : j ≡ b = same_Some j b (h ∙ ap option_of q) in
+            rw (add-one i, f, q, n, same) (picked (cheaper fits i b) b)
+
+    pub choice-skips : S i ≡ false → top ≡ choice (i + 1)
+    unfolding choose consider
+    choice-skips f = rw (add-one i, f) e
+
+    module _ (f : S i ≡ true) (r : Bool) (m : MatchOption top (r ≡ true) (λ (w : ℕ). r ≡ cheaper fits i w)) where
+      pub choice-takes : r ≡ true → Some i ≡ choice (i + 1)
+      choice-takes g = ap₂ (λ (x y : Bool). cond (x && y) (Some i) top) (sym f) (sym g) ∙ turn r m
+
+      pub choice-leaves : r ≡ false → top ≡ choice (i + 1)
+      choice-leaves g = ap₂ (λ (x y : Bool). cond (x && y) (Some i) top) (sym f) (sym g) ∙ turn r m

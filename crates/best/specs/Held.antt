@@ -1,10 +1,8 @@
 -- The fits and the best of them, as the code holds them beside their places and its rounding norm. Definitions only.
-use Rattle.std.specs.Prelude.{◌≡◌, true, false, List, [], map, ◌∷◌, ◌++◌, ℕ, ◌<◌, zero, suc, get_or, Float}
+use Rattle.std.specs.Prelude.{◌≡◌, List, [], map, ◌∷◌, ◌++◌, ℕ, ◌<◌, zero, suc, length, get_or, Float}
+use Rattle.std.specs.Prelude.{Result, Ok, Err}
 use Rattle.std.specs.Float.{nan}
-use Rattle.binary64.specs.Steps.{nought}
 use Rattle.geo.specs.Geo.{from_ecef}
-use Rattle.geo.specs.declared.Geodetic.{Geodetic}
-use Rattle.geo.specs.Held.{nowhere}
 use Rattle.dense.specs.Factor.{Factor, found, refused}
 use Rattle.linalg.specs.Methods.{zeros}
 use Rattle.problem.specs.Problem.{position}
@@ -16,13 +14,10 @@ use Rattle.whitening.specs.Covariance.{whitener}
 use Rattle.damped.specs.declared.Fit.{Fit}
 use Rattle.damped.specs.declared.Placed.{Placed}
 use Rattle.damped.specs.Held.{placed}
-use Rattle.damped.specs.Damped.{unfitted}
 use Rattle.starts.specs.Held.{point}
 use Rattle.best.specs.declared.Unfit.{Unfit}
 use Rattle.best.specs.declared.BestAt.{BestAt}
 use Rattle.best.specs.Best.{Outcome, refuses, gives, fit_at, best, with_whitener}
-use Rattle.best.specs.declared.Unfit.TheVariants.{NoConvergence}
-use Rattle.best.specs.declared.Best.{Best}
 use Rattle.best.specs.OfProblem.{Receptions}
 
 -- the fits alone
@@ -36,31 +31,18 @@ placed_at fits i = get_or fits i (record {
   place = record { lat_deg = nan; lon_deg = nan; height_m = nan };
 })
 
--- beside each of the first stands its place
-abbrev pub EachPlaced : List Placed → ℕ → Type 0
-EachPlaced fits count = (i : ℕ) → i < count → placed_at fits i ≡ placed (placed_at fits i).fit
-
--- the place of the best fit, and zeros beside a refusal
-abbrev pub best_place : Outcome Unfit Fit → Geodetic
-best_place (refuses e) = nowhere
-best_place (gives f) = from_ecef (position f.params)
+-- beside each stands its place
+abbrev pub EachPlaced : List Placed → Type 0
+EachPlaced fits = (i : ℕ) → i < length fits → placed_at fits i ≡ placed (placed_at fits i).fit
 
 -- the rounding norm of the rows of receptions at some parameters
 abbrev pub norm_at : Chosen → List Float → Float
 norm_at C params = let w = whitened C params in rounding_norm w.a w.b w.c w.d w.count
 
--- of the rows of the best fit, and zero beside a refusal
-abbrev pub best_norm : Chosen → Outcome Unfit Fit → Float
-best_norm C (refuses e) = nought
-best_norm C (gives f) = norm_at C f.params
-
--- as the code holds it: beside a refusal stands no fit, and beside a fit a refusal that means nothing
-abbrev pub as_best : Outcome Unfit Fit → Best
-as_best (refuses e) = record { found = false; why = e; fit = unfitted }
-as_best (gives f) = record { found = true; why = NoConvergence; fit = f }
-
-abbrev pub as_best_at : Chosen → Outcome Unfit Fit → BestAt
-as_best_at C o = record { best = as_best o; place = best_place o; norm = best_norm C o }
+-- a refusal, or the best fit beside its place and the rounding norm of its rows
+abbrev pub as_best_at : Chosen → Outcome Unfit Fit → Result BestAt Unfit
+as_best_at C (refuses e) = Err e
+as_best_at C (gives f) = Ok (record { fit = f; place = from_ecef (position f.params); norm = norm_at C f.params })
 
 -- the array of a factor, whether it is found or refused
 abbrev pub array_of : Factor → List Float

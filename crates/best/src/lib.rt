@@ -4,32 +4,29 @@
 
 mod norm;
 
-ghost use Rattle.std.specs.Prelude.{◌≡◌, not, ◌&&◌, ◌||◌, map, ◌++◌, ℕ, ◌-◌, ◌<◌, ◌≤◌, ltb, leb, take, replicate};
+ghost use Rattle.std.specs.Prelude.{◌≡◌, true, not, ◌&&◌, map, ◌++◌, ℕ, ◌-◌, ◌<◌, ◌≤◌, ltb, length, replicate};
+ghost use Rattle.std.specs.Prelude.{IfSome, MatchOption};
 ghost use Rattle.std.specs.Float.Ieee.{le, lt};
 ghost use Rattle.binary64.specs.Steps.{◌⊕◌, decimal};
 ghost use Rattle.geo.specs.Geo.{from_ecef};
-ghost use Rattle.geo.specs.Held.{nowhere};
 ghost use Rattle.sets.specs.Sets as sets;
 ghost use Rattle.sets.specs.Mask.{has};
 ghost use Rattle.sets.specs.Choice.{choose};
-ghost use Rattle.sets.specs.Held.{index_of};
+ghost use Rattle.sets.specs.Held.{option_of};
 ghost use Rattle.problem.specs.Problem.{position, range};
 ghost use Rattle.problem.specs.Gathered.{pick};
 ghost use Rattle.limits.specs.Heights.{min_height_m, max_height_m};
 ghost use Rattle.linalg.specs.Methods.{zeros};
 ghost use Rattle.whitening.specs.Covariance.{whitener};
-ghost use Rattle.whitening.specs.Whitened.{Chosen};
 ghost use Rattle.whitening.specs.Held.{chosen};
 ghost use Rattle.damped.specs.Damped.{unfitted, levenberg_marquardt};
 ghost use Rattle.damped.specs.Held.{placed};
 ghost use Rattle.best.specs.Plausible.{max_range_m, near_to, plausible};
-ghost use Rattle.best.specs.Best.{refuses, distance, explains_alike, fit_at, cheaper, any_fit, weighed, best_of};
-ghost use Rattle.best.specs.Best.{judged};
+ghost use Rattle.best.specs.Best.{distance, explains_alike, fit_at, cheaper, any_fit, weighed, best_of, judged};
 ghost use Rattle.best.specs.Held.{EachPlaced, fits_of, array_of, as_best_at, points_to, best_fit};
 
 use damped::{Fit, Placed};
 use geo::Geodetic;
-use linalg::Cholesky;
 use norm::norm;
 use problem::Altitude;
 
@@ -49,38 +46,12 @@ pub enum Unfit {
     Singular,
 }
 
-// The best fit where one is found, and otherwise why there is none.
-#[derive(Clone, Copy)]
-pub struct Best {
-    pub found: bool,
-    pub why: Unfit,
-    pub fit: Fit,
-}
-
-// The best fit, its place, and the rounding norm of its rows: zeros where there is none.
+// The best fit, its place, and the rounding norm of its rows.
 #[derive(Clone, Copy)]
 pub struct BestAt {
-    pub best: Best,
+    pub fit: Fit,
     pub place: Geodetic,
     pub norm: f64,
-}
-
-fn both(a: bool, b: bool) -> bool
-    ensures { result ≡ (a && b) }
-{
-    if a {
-        return b;
-    }
-    false
-}
-
-fn either(a: bool, b: bool) -> bool
-    ensures { result ≡ (a || b) }
-{
-    if a {
-        return true;
-    }
-    b
 }
 
 fn near(sites: &[f64; 96], i: usize, x: [f64; 3]) -> bool
@@ -95,21 +66,14 @@ fn all_near(sites: &[f64; 96], k: usize, x: [f64; 3]) -> bool
     requires { k ≤ 32 }
     ensures { result ≡ near_to sites.now x k }
 {
-    let mut so_far = true;
-    for i in 0..k {
-        so_far = both(so_far, near(sites, i, x));
-    }
-    so_far
+    (0..k).all(|i| near(sites, i, x))
 }
 
 // False of a not-a-number.
 fn flying(height: f64) -> bool
     ensures { result ≡ (le min_height_m height && le height max_height_m) }
 {
-    both(
-        limits::MIN_HEIGHT_M <= height,
-        height <= limits::MAX_HEIGHT_M,
-    )
+    limits::MIN_HEIGHT_M <= height && height <= limits::MAX_HEIGHT_M
 }
 
 // Where a solution may be: between the height limits and within range of every receiver used. Its place
@@ -118,42 +82,7 @@ pub fn plausible(sites: &[f64; 96], k: usize, p: [f64; 4], place: Geodetic) -> b
     requires { (k ≤ 32) × (place ≡ from_ecef (position p)) }
     ensures { result ≡ plausible sites.now k p }
 {
-    if flying(place.height_m) {
-        let x = [p[0], p[1], p[2]];
-        return all_near(sites, k, x);
-    }
-    false
-}
-
-fn no_fit() -> Fit
-    ensures { result ≡ unfitted }
-{
-    let params = [0.0; 4];
-    let information = [0.0; 16];
-    Fit {
-        ok: false,
-        params,
-        cost: 0.0,
-        information,
-    }
-}
-
-fn nowhere() -> Geodetic
-    ensures { result ≡ nowhere }
-{
-    Geodetic {
-        lat_deg: 0.0,
-        lon_deg: 0.0,
-        height_m: 0.0,
-    }
-}
-
-fn no_placed() -> Placed
-    ensures { result ≡ placed unfitted }
-{
-    let fit = no_fit();
-    let place = nowhere();
-    Placed { fit, place }
+    flying(place.height_m) && all_near(sites, k, [p[0], p[1], p[2]])
 }
 
 // The fits from the first `count` starts with their places, and none past them.
@@ -171,11 +100,10 @@ fn fits(
         (levenberg_marquardt (chosen k sites.now z.now l.now altitude) p))
         (points_to at.now count) ++ replicate (18 - count) (placed unfitted) }
 {
-    let none = no_placed();
-    let mut fits = [none; 18];
+    let mut fits = [damped::unfitted(); 18];
+    // By index: the starts lie packed in one array, so an iterator over both is no plainer.
     for i in 0..count {
-        let fit = damped::levenberg_marquardt(sites, z, k, l, altitude, starts::point(at, i));
-        fits[i] = fit;
+        fits[i] = damped::levenberg_marquardt(sites, z, k, l, altitude, starts::point(at, i));
     }
     fits
 }
@@ -185,72 +113,57 @@ fn weigh(sites: &[f64; 96], k: usize, at: Placed) -> bool
     requires { (k ≤ 32) × (at ≡ placed at.fit) }
     ensures { result ≡ weighed sites.now k at.fit }
 {
-    let fit = at.fit;
-    if fit.ok {
-        let p = fit.params;
-        return plausible(sites, k, p, at.place);
-    }
-    false
+    at.fit.ok && plausible(sites, k, at.fit.params, at.place)
 }
 
 // Which of the fits are weighed, as a mask.
-fn weighed(sites: &[f64; 96], k: usize, fits: [Placed; 18], count: usize) -> u32
-    requires { (k ≤ 32) × (count ≤ 18) × EachPlaced fits count }
-    ensures { has result ≡ (λ i. weighed sites.now k (fit_at (take count (fits_of fits)) i)) }
+fn weighed(sites: &[f64; 96], k: usize, fits: &[Placed]) -> u32
+    requires { (k ≤ 32) × (length fits.now ≤ 18) × EachPlaced fits.now }
+    ensures { has result ≡ (λ i. weighed sites.now k (fit_at (fits_of fits.now) i)) }
 {
     let mut mask = 0u32;
-    for i in 0..count {
-        let fit = fits[i];
-        if weigh(sites, k, fit) {
+    // By index, which is what the mask is of.
+    for i in 0..fits.len() {
+        if weigh(sites, k, fits[i]) {
             mask = sets::joined(mask, i);
         }
     }
     mask
 }
 
-// Whether a fit takes the place of the top, whose cost is `least`: the first that is weighed does,
-// and then one whose cost is not at least the top's.
-fn replaces(weighed: bool, cost: f64, top: usize, least: f64) -> bool
-    ensures { result ≡ (weighed && (leb 32 top || not (le least cost))) }
+// Whether the i-th fit takes the place of the top: the first does, and then one whose cost is not at
+// least the top's.
+fn replaces(fits: &[Placed], i: usize, top: Option<usize>) -> bool
+    requires { (i < length fits.now) × IfSome top (λ t. t < length fits.now) }
+    ensures { MatchOption top (result ≡ true) (λ t. result ≡ cheaper (fits_of fits.now) i t) }
 {
-    if weighed {
-        if top < sets::NONE {
-            if cost >= least {
-                return false;
-            }
-        }
-        return true;
+    match top {
+        Some(top) if fits[i].fit.cost >= fits[top].fit.cost => false,
+        _ => true,
     }
-    false
 }
 
-// The first of those with the lowest cost, of the fits in the mask, or NONE.
-fn best_of(fits: [Placed; 18], mask: u32, count: usize) -> usize
-    requires { count ≤ 18 }
-    ensures { result ≡ index_of (choose (has mask) (cheaper (take count (fits_of fits))) count) }
+// The first of those with the lowest cost, of the fits in the mask.
+fn best_of(fits: &[Placed], mask: u32) -> Option<usize>
+    requires { length fits.now ≤ 18 }
+    ensures choice { result ≡ option_of (choose (has mask) (cheaper (fits_of fits.now)) (length fits.now)) }
+    ensures below { IfSome result (λ top. top < length fits.now) }
 {
-    let mut top = sets::NONE;
-    let mut least = 0.0;
-    for i in 0..count {
-        let cost = fits[i].fit.cost;
-        if replaces(sets::has(mask, i), cost, top, least) {
-            top = i;
-            least = cost;
+    let mut top = None;
+    // By index, which is what it gives, as the Rust's `fold` does.
+    for i in 0..fits.len() {
+        if sets::has(mask, i) && replaces(fits, i, top) {
+            top = Some(i);
         }
     }
     top
 }
 
 // Whether one of the fits converged.
-fn converged(fits: [Placed; 18], count: usize) -> bool
-    requires { count ≤ 18 }
-    ensures { result ≡ any_fit (λ fit. fit.ok) (take count (fits_of fits)) }
+fn converged(fits: &[Placed]) -> bool
+    ensures { result ≡ any_fit (λ fit. fit.ok) (fits_of fits.now) }
 {
-    let mut so_far = false;
-    for i in 0..count {
-        so_far = either(so_far, fits[i].fit.ok);
-    }
-    so_far
+    fits.iter().any(|at| at.fit.ok)
 }
 
 // The squared Mahalanobis distance of another fit from the best, under the best's information.
@@ -271,43 +184,17 @@ fn distance(best: Fit, other: Fit) -> f64
 fn rival(best: Fit, other: Fit, limit: f64) -> bool
     ensures { result ≡ (not (lt (best.cost ⊕ decimal 9 0) other.cost) && lt limit (distance best other)) }
 {
-    if other.cost > best.cost + AMBIGUOUS_COST {
-        return false;
-    }
-    distance(best, other) > limit
+    !(other.cost > best.cost + AMBIGUOUS_COST) && distance(best, other) > limit
 }
 
 // Whether one of the fits in the mask is a rival of the best.
-fn rivalled(fits: [Placed; 18], mask: u32, best: Fit, count: usize) -> bool
-    requires { count ≤ 18 }
+fn rivalled(fits: &[Placed], mask: u32, best: Fit) -> bool
+    requires { length fits.now ≤ 18 }
     ensures { result ≡ ltb 0 (sets.count
-        (λ i. has mask i && explains_alike best (fit_at (take count (fits_of fits)) i)) count) }
+        (λ i. has mask i && explains_alike best (fit_at (fits_of fits.now) i)) (length fits.now)) }
 {
     let limit = limits::chi2_limit(4);
-    let mut so_far = false;
-    for i in 0..count {
-        let at = fits[i];
-        let other = at.fit;
-        so_far = either(so_far, both(sets::has(mask, i), rival(best, other, limit)));
-    }
-    so_far
-}
-
-fn refused(why: Unfit) -> BestAt
-    ensures { (C : Chosen) → result ≡ as_best_at C (refuses why) }
-{
-    let fit = no_fit();
-    let best = Best {
-        found: false,
-        why,
-        fit,
-    };
-    let place = nowhere();
-    BestAt {
-        best,
-        place,
-        norm: 0.0,
-    }
+    (0..fits.len()).any(|i| sets::has(mask, i) && rival(best, fits[i].fit, limit))
 }
 
 // What the fits come to.
@@ -317,36 +204,26 @@ fn judged(
     k: usize,
     l: &[f64; 1024],
     altitude: Altitude,
-    fits: [Placed; 18],
-    count: usize,
-) -> BestAt
-    requires { (k ≤ 32) × (count ≤ 18) × EachPlaced fits count }
+    fits: &[Placed],
+) -> Result<BestAt, Unfit>
+    requires { (k ≤ 32) × (length fits.now ≤ 18) × EachPlaced fits.now }
     ensures { result ≡ as_best_at (chosen k sites.now z.now l.now altitude)
-        (judged sites.now k (take count (fits_of fits))
-        (best_of sites.now k (take count (fits_of fits)))) }
+        (judged sites.now k (fits_of fits.now) (best_of sites.now k (fits_of fits.now))) }
 {
-    let mask = weighed(sites, k, fits, count);
-    let top = best_of(fits, mask, count);
-    if top < sets::NONE {
-        let first = fits[top];
-        let fit = first.fit;
-        if rivalled(fits, mask, fit, count) {
-            return refused(Unfit::Ambiguous);
+    let mask = weighed(sites, k, fits);
+    let Some(top) = best_of(fits, mask) else {
+        if converged(fits) {
+            return Err(Unfit::OutOfRange);
         }
-        let best = Best {
-            found: true,
-            why: Unfit::NoConvergence,
-            fit,
-        };
-        let place = first.place;
-        let params = fit.params;
-        let norm = norm(sites, z, k, l, altitude, params, place);
-        return BestAt { best, place, norm };
+        return Err(Unfit::NoConvergence);
+    };
+    let best = fits[top];
+    if rivalled(fits, mask, best.fit) {
+        return Err(Unfit::Ambiguous);
     }
-    if converged(fits, count) {
-        return refused(Unfit::OutOfRange);
-    }
-    refused(Unfit::NoConvergence)
+    let Placed { fit, place } = best;
+    let norm = norm(sites, z, k, l, altitude, fit.params, place);
+    Ok(BestAt { fit, place, norm })
 }
 
 // The best plausible fit of the k receptions of `index` from the first `count` starts: the lowest
@@ -364,7 +241,7 @@ pub fn best_fit(
     altitude: Altitude,
     at: &[f64; 72],
     count: usize,
-) -> BestAt
+) -> Result<BestAt, Unfit>
     requires n_bound { (n ≤ 32) × (k ≤ 32) × (count ≤ 18) }
     requires by_index { (a : ℕ) → a < k → pick index.now a < n }
     ensures { result ≡ as_best_at (chosen k sites.now z.now
@@ -372,13 +249,10 @@ pub fn best_fit(
         altitude) (best_fit clock_m2.now n noise_m2.now index.now
         sites.now z.now k altitude (points_to at.now count)) }
 {
-    let mut factor = Cholesky {
-        n: k,
-        l: [0.0; 1024],
-    };
-    if whitening::whitener(clock_m2, n, noise_m2, index, factor.n, &mut factor.l) {
-        let fitted = fits(sites, z, factor.n, &factor.l, altitude, at, count);
-        return judged(sites, z, factor.n, &factor.l, altitude, fitted, count);
+    let mut l = [0.0; 1024];
+    if !whitening::whitener(clock_m2, n, noise_m2, index, k, &mut l) {
+        return Err(Unfit::Singular);
     }
-    refused(Unfit::Singular)
+    let fits = fits(sites, z, k, &l, altitude, at, count);
+    judged(sites, z, k, &l, altitude, &fits[..count])
 }

@@ -5,7 +5,7 @@ use Prim.Native.Nat.{ℕ, ◌%◌, ◌*◌, ◌^◌, ◌≤◌, ◌<◌}
 use native.Mathlib.Nat.{mod-le, le_trans}
 use native.Mathlib.Omega.{arith}
 use mathlib.Core.Bool.{Bool, true, false, not, false≢true}
-use lib.Dec.{T, ltb, lt→ltb}
+use lib.Dec.{T, ltb}
 use lib.Arith.{le→nltb}
 use lib.Ieee.{Float, nan, inf, fin, binary64, hid, ones, top, is_nan, nan_bits, div, le, ne, fits, of_bits, to_bits}
 use lib.Ieee.Compare.{nan_differs, differs_from_itself}
@@ -17,17 +17,6 @@ pattern_number n h = subst (λ (b : Bool). T (not b)) (sym (nan_bits_above binar
 
 pub no_nan : (n : ℕ) → n ≤ 0x7ff0_0000_0000_0000 → T (not (nan_bits binary64 n))
 no_nan n h = pattern_number n (le_trans (mod-le n (top binary64)) h)
-
--- below the sign, bits above the infinity's
-pub pattern-nan : (n : ℕ) → 0x7ff0_0000_0000_0000 < n % 2 ^ 63 → of_bits binary64 n ≡ nan
-unfolding is_nan
-pattern-nan n h = none (of_bits binary64 n) (subst T (nan_bits_is binary64 n)
-    (subst T (sym (nan_bits_above binary64 n)) (lt→ltb (ones binary64 * hid binary64) (n % top binary64) h)))
-  where
-    none : (x : Float) → T (is_nan x) → x ≡ nan
-    none nan t = refl
-    none (inf s) t = absurd t
-    none (fin s m e) t = absurd t
 
 -- how the code makes one
 pub zero_by_zero : div binary64 (of_bits binary64 0) (of_bits binary64 0) ≡ nan

@@ -23,41 +23,29 @@ const LEAD: u64 = 0x10_0000_0000_0000;
 
 const DIGITS: u64 = 0xf_ffff_ffff_ffff;
 
-// The bits that stand for a not-a-number, whichever it is.
-const NAN: u64 = 0x7ff8_0000_0000_0000;
-
 // The value with these bits, for every bits: those of a not-a-number give the one that counts.
 pub fn from_bits(bits: u64) -> f64
     ensures { result ≡ # bits }
 {
-    if bits % SIGN > INFINITY {
-        return 0.0 / 0.0;
-    }
-    f64::from_bits(bits)
+    std::num::f64_from_bits_with_nan(bits)
 }
 
 // The bits of x, for every x: a not-a-number's are 7FF8000000000000.
 pub fn to_bits(x: f64) -> u64
     ensures { result ≡ to_bits binary64 x }
 {
-    if x != x {
-        return NAN;
-    }
-    f64::to_bits(x)
+    std::num::f64_to_bits_with_nan(x)
 }
 
 // The magnitude: `f64::abs`, which clears the sign.
 pub fn abs(x: f64) -> f64
     ensures { result ≡ abs x }
 {
-    if x != x {
-        return x;
-    }
-    f64::from_bits(f64::to_bits(x) % SIGN)
+    x.abs()
 }
 
 // The second unless the first is greater, as document 01 has `max`: 1e-12 for a not-a-number and
-// 1e-12, and 0 for -0 and 0.
+// 1e-12, and 0 for -0 and 0. Of -0 and 0 the library's may be either, which `max_of` does not allow.
 pub fn max(a: f64, b: f64) -> f64
     ensures { result ≡ max_of a b }
 {
@@ -71,8 +59,5 @@ pub fn max(a: f64, b: f64) -> f64
 pub fn is_finite(x: f64) -> bool
     ensures { result ≡ is_finite x }
 {
-    if x != x {
-        return false;
-    }
-    INFINITY > f64::to_bits(x) % SIGN
+    x.is_finite()
 }

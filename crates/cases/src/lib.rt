@@ -2,8 +2,9 @@
 // What the programs share that compare recorded cases.
 #![tactic(auto)]
 
-ghost use Rattle.std.specs.Prelude.{◌+◌, ◌<◌, ◌≤◌, cond, ◌≡◌, length, drop};
+ghost use Rattle.std.specs.Prelude.{ℕ, ◌+◌, ◌<◌, ◌≤◌, cond, ◌≡◌, length, drop};
 ghost use Rattle.io.specs.Counts.{IsPrefixLen};
+ghost use Rattle.cases.specs.Tallies.{IsTallyOf, IsFalsified};
 
 use std::io;
 use std::io::Read;
@@ -78,6 +79,59 @@ pub fn read(input: &mut impl Read, bytes: &mut [u8], n: usize) -> usize
         return 0;
     }
     host::read_full(input, &mut bytes[..n])
+}
+
+// The next N bytes, which begin a case; none where they do not all come. As of `read`, nothing is promised of them.
+pub fn start<const N: usize>(input: &mut impl Read) -> Option<[u8; N]> {
+    let mut head = [0u8; N];
+    (read(input, &mut head, N) == N).then_some(head)
+}
+
+// Falsifies the answer of a case: changes byte `place` of what is to be left, or, past its end, gives another number.
+pub fn falsified(number: u8, after: &mut [u8], place: usize) -> u8
+    ensures { IsFalsified number result place after.old after.new }
+{
+    if place < after.len() {
+        after[place] ^= 1;
+        return number;
+    }
+    number ^ 1
+}
+
+// Whether an answer is alike the recorded one, a number and what is left, and alike the falsified one.
+pub fn twice<F: Fn(u8, &[u8]) -> bool>(
+    number: u8,
+    after: &mut [u8],
+    place: usize,
+    alike: F,
+) -> Compared
+    requires { F.IsAlwaysCallable alike }
+    ensures same { (bytes : _) × (bytes.now ≡ after.old) × F.post alike number bytes result.same }
+    ensures falsified { (other : ℕ) × (bytes : _) × (bytes.now ≡ after.new)
+        × IsFalsified number other place after.old after.new × F.post alike other bytes result.same_falsified }
+{
+    let same = alike(number, after);
+    let other = falsified(number, after, place);
+    let same_falsified = alike(other, after);
+    Compared {
+        same,
+        same_falsified,
+    }
+}
+
+// Compares case after case: `next` reads case k and compares it, or says that there is none.
+pub fn replay<F: FnMut(u64) -> Option<Compared>>(mut next: F) -> Tally
+    requires { F.IsAlwaysCallable next }
+    ensures { IsTallyOf F.step next result }
+{
+    let mut tally = Tally::none();
+    for k in 0..MOST {
+        let Some(found) = next(k) else {
+            return tally;
+        };
+        tally = tally.with(found);
+    }
+    tally
 }
 
 // Prints how many were compared and how many differ; and likewise of the falsified records.

@@ -10,10 +10,10 @@ fn sound<R: Eprint + Alloc>(rt: &R, input: &mut impl Read) -> bool {
     host::sound(rt, input, b"check_record: standard input")
 }
 
-fn print<R: Print + Eprint + Alloc>(rt: &R, refusal: u32) {
+fn print<R: Print + Eprint + Alloc>(rt: &R, answer: u32) {
     host::written(
         rt,
-        println!(rt; "{refusal}"),
+        println!(rt; "{answer}"),
         b"check_record: standard output",
     );
 }
@@ -25,9 +25,9 @@ fn main(rt: HostRuntime) {
         host::say(&rt, "usage: check_record <RECORD\n");
     } else {
         let n = host::read_full(&mut input, &mut bytes);
-        let reading = reader::read(&bytes[..n]);
+        let answer = refusals::answer(reader::read(&bytes[..n]));
         if sound(&rt, &mut input) {
-            print(&rt, reading.refusal);
+            print(&rt, answer);
         }
     }
 }

@@ -40,7 +40,8 @@ fn counted(n: u32) -> [u64; 7]
     ensures { result ≡ table n }
 {
     let mut counts = [0u64; 7];
-    patterns::clash_patterns(n, &mut counts);
+    // up to six it is always answered
+    let _ = patterns::clash_patterns(n, &mut counts);
     counts
 }
 

@@ -33,7 +33,8 @@ fn line(rt: &impl Print, n: u32, all: u64) -> io::Result<()>
     print(rt, line_of(n, all))
 }
 
-// The table, up to the first line that cannot be written.
+// The table, up to the first line that cannot be written. (Its lines are written out: the check computes 2 to the pairs
+// of each number, where a loop would compute it anew at run time and prove it.)
 fn print_table(rt: &impl Print) -> io::Result<()> {
     say(
         rt,

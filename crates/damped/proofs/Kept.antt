@@ -1,10 +1,11 @@
 -- What holds of the parameters and the cost of a start and of every candidate holds of a fit's: each step keeps both, or takes a candidate with its
 -- own cost, and a fit that fails has zeros. Assumes nothing.
-use mathlib.Core.Bool.{Bool, true, false, cond, ◌&&◌}
+use mathlib.Core.Bool.{Bool, true, false, cond}
 use mathlib.Core.List.{List}
 use Prim.Native.Nat.{ℕ, zero, suc}
 use lib.ListN.{replicate}
 use lib.Ieee.{Float}
+use Rattle.std.specs.Prelude.{Option, None, Some}
 use Rattle.binary64.specs.Steps.{nought}
 use Rattle.whitening.specs.Whitened.{Chosen}
 use Rattle.whitening.specs.Normal.{evaluated}
@@ -13,7 +14,8 @@ use Rattle.damped.specs.declared.Verdict.{Verdict}
 use Rattle.damped.specs.declared.Verdict.TheVariants.{Accepted, Converged, Rejected, Stopped, Failed}
 use Rattle.damped.specs.declared.Stepped.{Stepped}
 use Rattle.damped.specs.declared.Fit.{Fit}
-use Rattle.damped.specs.Damped.{damped_to, descent, candidate, small, better, accepted, rejected, tried, step, fitted, unfitted, plain, after}
+use Rattle.damped.specs.Damped.{damped_to, descent, candidate, small, better, accepted, rejected, stepped, step, fitted, unfitted, settled, plain}
+use Rattle.damped.specs.Damped.{after}
 use Rattle.damped.specs.Damped.{run, started, levenberg_marquardt}
 
 module _ (C : Chosen) (Holds : List Float → Float → Type 0)
@@ -27,26 +29,28 @@ module _ (C : Chosen) (Holds : List Float → Float → Type 0)
 
   step_keeps : (s : Lm) → Holds s.params s.cost → OfStep (step C s)
   unfolding step accepted rejected
-  step_keeps s h = go (descent (damped_to s.information s.lambda 4) s.gradient).ok
+  step_keeps s h = go (descent (damped_to s.information s.lambda 4) s.gradient)
     where
-      x : List Float
-      x = (descent (damped_to s.information s.lambda 4) s.gradient).x
+      taken : (x : List Float) (b : Bool)
+          → OfStep (cond b (accepted s.lambda x (candidate s.params x) (evaluated C (candidate s.params x))) (rejected s))
+      taken x true = moves s.params x
+      taken x false = h
 
-      taken : (b : Bool) → OfStep (cond b (accepted s.lambda x (candidate s.params x) (evaluated C (candidate s.params x))) (rejected s))
-      taken true = moves s.params x
-      taken false = h
-
-      go : (b : Bool) → OfStep (cond b (tried C s x (candidate s.params x)) (record { state = s; verdict = Failed }))
-      go true = taken (better (evaluated C (candidate s.params x)).cost s.cost)
-      go false = h
+      go : (o : Option (List Float)) → OfStep (stepped C s o)
+      go (Some x) = taken x (better (evaluated C (candidate s.params x)).cost s.cost)
+      go None = h
 
   plain-keeps : (s : Lm) → Holds s.params s.cost → OfFit (plain s)
   unfolding plain
-  plain-keeps s h = go ((descent s.information s.gradient).ok && small (descent s.information s.gradient).x)
+  plain-keeps s h = go (descent s.information s.gradient)
     where
-      go : (b : Bool) → OfFit (cond b (fitted s) unfitted)
-      go true = h
-      go false = fails
+      held : (b : Bool) → OfFit (cond b (fitted s) unfitted)
+      held true = h
+      held false = fails
+
+      go : (o : Option (List Float)) → OfFit (settled s o)
+      go (Some x) = held (small x)
+      go None = fails
 
   after-keeps : (v : Verdict) (s : Lm) (on : Fit) → Holds s.params s.cost → OfFit on → OfFit (after v s on)
   after-keeps Accepted s on h k = k

@@ -19,7 +19,9 @@ use Rattle.damped.specs.declared.Lm.{Lm}
 use Rattle.damped.specs.declared.Verdict.{Verdict}
 use Rattle.damped.specs.declared.Verdict.TheVariants.{Accepted, Converged, Rejected, Stopped, Failed}
 use Rattle.damped.specs.declared.Stepped.{Stepped}
-use Rattle.damped.specs.Damped.{solved, descent, candidate, small, better, accepted, rejected, tried, step, fitted, unfitted, plain, after, run}
+use Rattle.damped.specs.declared.Fit.{Fit}
+use Rattle.damped.specs.Damped.{solved, descent, candidate, small, better, accepted, rejected, stepped, step, fitted, unfitted, settled, plain, after}
+use Rattle.damped.specs.Damped.{run}
 use Rattle.damped.specs.Meaning.{Below, SmallIsBelow, SmallAtTolerance, step_by, plain_factor, damped_factor, cost_by, Taken}
 use Rattle.damped.specs.Meaning.{ConvergesBelow, StopsAbove, NoFactorNoFit, LastStepBelow}
 
@@ -113,15 +115,14 @@ module _ (C : Chosen) (s : Lm) where
   tried-by l true = refl
   tried-by l false = refl
 
-  abbrev stepped : Factor → Stepped
-  stepped G = let v = solved G (four (λ i. neg (nth s.gradient i))) in
-      cond v.ok (tried C s v.x (candidate s.params v.x)) (record { state = s; verdict = Failed })
+  abbrev by : Factor → Stepped
+  by G = stepped C s (solved G (four (λ i. neg (nth s.gradient i))))
 
   by-factor : (F : Factor) → damped_factor s ≡ F → (step C s).verdict ≡ verdict_by F
   unfolding step descent
-  by-factor F e = ap (λ (G : Factor). (stepped G).verdict) e ∙ go F
+  by-factor F e = ap (λ (G : Factor). (by G).verdict) e ∙ go F
     where
-      go : (G : Factor) → (stepped G).verdict ≡ verdict_by G
+      go : (G : Factor) → (by G).verdict ≡ verdict_by G
       go (found l) = tried-by l (better (cost_by C s l) s.cost)
       go (refused l) = refl
 
@@ -195,21 +196,21 @@ no-factor-no-fit C n s l e = ap (λ (v : Verdict). after v (step C s).state (run
 
 -- ---- the last test
 module _ (s : Lm) where
-  abbrev fits : Factor → Bool
-  fits F = let v = solved F (four (λ i. neg (nth s.gradient i))) in v.ok && small v.x
+  abbrev by_last : Factor → Fit
+  by_last F = settled s (solved F (four (λ i. neg (nth s.gradient i))))
 
   ok-is : (b : Bool) → (cond b (fitted s) unfitted).ok ≡ b
   ok-is true = refl
   ok-is false = refl
 
-  last-by : (F : Factor) → plain_factor s ≡ F → T (fits F) → (l : List Float) × (plain_factor s ≡ found l) × Below (step_by s l)
-  last-by (found l) e h = (l, e, (small-is-below (step_by s l)).0 h)
-  last-by (refused l) e h = absurd h
-
 pub last-step-below : LastStepBelow
 unfolding plain descent
 last-step-below s = (
-  (λ h. last-by s (plain_factor s) refl (subst T (ok-is s (fits s (plain_factor s))) h)),
-  λ w. subst T (sym (ok-is s (fits s (plain_factor s))))
-      (subst (λ (F : Factor). T (fits s F)) (sym w.1) ((small-is-below (step_by s w.0)).1 w.2)),
+  (λ h. last (plain_factor s) refl h),
+  λ w. subst (λ (F : Factor). T (by_last s F).ok) (sym w.1)
+      (subst T (sym (ok-is s (small (step_by s w.0)))) ((small-is-below (step_by s w.0)).1 w.2)),
 )
+  where
+    last : (F : Factor) → plain_factor s ≡ F → T (by_last s F).ok → (l : List Float) × (plain_factor s ≡ found l) × Below (step_by s l)
+    last (found l) e h = (l, e, (small-is-below (step_by s l)).0 (subst T (ok-is s (small (step_by s l))) h))
+    last (refused l) e h = absurd h

@@ -1,5 +1,5 @@
 -- `levenberg_marquardt` of solve.rs: the state, one damped step of it, and the run. Definitions only.
-use Rattle.std.specs.Prelude.{Bool, true, false, cond, ◌&&◌, List, ℕ, zero, suc, replicate, Float}
+use Rattle.std.specs.Prelude.{Bool, true, false, cond, ◌&&◌, List, ℕ, zero, suc, replicate, Float, Option, None, Some}
 use Rattle.std.specs.Float.Ieee.{neg, lt, le}
 use Rattle.binary64.specs.Steps.{◌⊕◌, ◌⊗◌, ◌⊘◌, nought, decimal, abs, is_finite, max_of}
 use Rattle.dense.specs.Entries.{nth, at, put}
@@ -13,7 +13,6 @@ use Rattle.damped.specs.declared.Lm.{Lm}
 use Rattle.damped.specs.declared.Verdict.{Verdict}
 use Rattle.damped.specs.declared.Verdict.TheVariants.{Accepted, Converged, Rejected, Stopped, Failed}
 use Rattle.damped.specs.declared.Stepped.{Stepped}
-use Rattle.damped.specs.declared.Solved.{Solved}
 use Rattle.damped.specs.declared.Fit.{Fit}
 
 -- `damped`, after i turns of `for i in 0..4`: `damped.add(i, i, lambda * information.get(i, i).max(1e-12))`
@@ -23,12 +22,12 @@ damped_to information lambda (suc i) =
     let m = damped_to information lambda i in
     put m 4 i i (at m 4 i i ⊕ lambda ⊗ max_of (at information 4 i i) (decimal 1 12))
 
--- `m.cholesky()?.solve(&gradient.map(|value| -value))`: where the Cholesky fails there is none, and zeros stand for it
-abbrev pub solved : Factor → List Float → Solved
-solved (found l) b = record { ok = true; x = solve l 4 b }
-solved (refused l) b = record { ok = false; x = replicate 4 nought }
+-- `m.cholesky()?.solve(&gradient.map(|value| -value))`: none where the Cholesky fails
+abbrev pub solved : Factor → List Float → Option (List Float)
+solved (found l) b = Some (solve l 4 b)
+solved (refused l) b = None
 
-unfoldable pub descent : List Float → List Float → Solved
+unfoldable pub descent : List Float → List Float → Option (List Float)
 descent m gradient = solved (cholesky m 4 (replicate 16 nought)) (four (λ i. neg (nth gradient i)))
 
 -- `candidate`: the parameters after a step x
@@ -78,11 +77,14 @@ abbrev pub tried : Chosen → Lm → List Float → List Float → Stepped
 tried C s x candidate = let next = evaluated C candidate in
     cond (better next.cost s.cost) (accepted s.lambda x candidate next) (rejected s)
 
+-- what a step gives that is solved for, or that fails
+abbrev pub stepped : Chosen → Lm → Option (List Float) → Stepped
+stepped C s (Some x) = tried C s x (candidate s.params x)
+stepped C s None = record { state = s; verdict = Failed }
+
 -- a turn of the loop over the chosen receptions C: where the damped Cholesky fails the step fails
 unfoldable pub step : Chosen → Lm → Stepped
-step C s =
-    let v = descent (damped_to s.information s.lambda 4) s.gradient in
-    cond v.ok (tried C s v.x (candidate s.params v.x)) (record { state = s; verdict = Failed })
+step C s = stepped C s (descent (damped_to s.information s.lambda 4) s.gradient)
 
 -- `Some(Fit { params, cost, information })`, and `None`
 abbrev pub fitted : Lm → Fit
@@ -101,9 +103,14 @@ unfitted = record {
   information = replicate 16 nought;
 }
 
+-- a fit where a plain step is solved for and is small
+abbrev pub settled : Lm → Option (List Float) → Fit
+settled s (Some x) = cond (small x) (fitted s) unfitted
+settled s None = unfitted
+
 -- after the loop: "Converged only if a plain Gauss-Newton step from here is below tolerance."
 unfoldable pub plain : Lm → Fit
-plain s = let v = descent s.information s.gradient in cond (v.ok && small v.x) (fitted s) unfitted
+plain s = settled s (descent s.information s.gradient)
 
 -- what follows a step: the steps that are left, which give `on`, or the end
 abbrev pub after : Verdict → Lm → Fit → Fit

@@ -1,6 +1,5 @@
 // The loop of the damped fit, and the test after it.
 ghost use Rattle.std.specs.Prelude.{◌≡◌, true, ◌≤◌};
-ghost use Rattle.geo.specs.Held.{nowhere};
 ghost use Rattle.whitening.specs.Held.{Scratch, row_place, chosen};
 ghost use Rattle.damped.specs.Damped.{fitted, unfitted, plain, started, run, levenberg_marquardt};
 ghost use Rattle.damped.specs.Held.{placed};
@@ -24,15 +23,22 @@ fn fitted(state: Lm) -> Fit
     }
 }
 
-// `None`.
-fn unfitted() -> Fit
-    ensures { result ≡ unfitted }
+// `None`: zeros.
+pub fn unfitted() -> Placed
+    ensures { result ≡ placed unfitted }
 {
-    Fit {
-        ok: false,
-        params: [0.0; 4],
-        cost: 0.0,
-        information: [0.0; 16],
+    Placed {
+        fit: Fit {
+            ok: false,
+            params: [0.0; 4],
+            cost: 0.0,
+            information: [0.0; 16],
+        },
+        place: Geodetic {
+            lat_deg: 0.0,
+            lon_deg: 0.0,
+            height_m: 0.0,
+        },
     }
 }
 
@@ -40,27 +46,9 @@ fn unfitted() -> Fit
 fn plain(state: Lm) -> Fit
     ensures { result ≡ plain state }
 {
-    let information = state.information;
-    let gradient = state.gradient;
-    let found = descent(&information, gradient);
-    if found.ok {
-        let x = found.x;
-        if small(x) {
-            return fitted(state);
-        }
-        return unfitted();
-    }
-    unfitted()
-}
-
-// What stands in the place of a place where there is no fit.
-fn nowhere() -> Geodetic
-    ensures { result ≡ nowhere }
-{
-    Geodetic {
-        lat_deg: 0.0,
-        lon_deg: 0.0,
-        height_m: 0.0,
+    match descent(&state.information, state.gradient) {
+        Some(x) if small(x) => fitted(state),
+        _ => unfitted().fit,
     }
 }
 
@@ -121,10 +109,7 @@ fn run(
                 let fit = plain(next);
                 return Placed { fit, place: there };
             }
-            Verdict::Failed => {
-                let fit = unfitted();
-                return Placed { fit, place: there };
-            }
+            Verdict::Failed => return unfitted(),
         }
         state = next;
         at = there;
@@ -138,23 +123,20 @@ fn placed(fit: Fit, place: Geodetic, altitude: Altitude) -> Placed
     requires { (fit.ok ≡ true) → place ≡ row_place altitude fit.params }
     ensures { result ≡ placed fit }
 {
-    if fit.ok {
-        let p = fit.params;
-        match altitude {
-            Altitude::None => {
-                let place = geo::from_ecef([p[0], p[1], p[2]]);
-                return Placed { fit, place };
-            }
-            Altitude::Barometric(metres) => {
-                return Placed { fit, place };
-            }
-            Altitude::Gnss(metres) => {
-                return Placed { fit, place };
-            }
-        }
+    if !fit.ok {
+        return Placed {
+            fit,
+            place: unfitted().place,
+        };
     }
-    let place = nowhere();
-    Placed { fit, place }
+    match altitude {
+        Altitude::None => {
+            let p = fit.params;
+            let place = geo::from_ecef([p[0], p[1], p[2]]);
+            Placed { fit, place }
+        }
+        _ => Placed { fit, place },
+    }
 }
 
 // `levenberg_marquardt` from a start of this place, in arrays that are lent to each of its steps.

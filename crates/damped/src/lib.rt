@@ -9,7 +9,7 @@ ghost use Rattle.whitening.specs.Held.{Scratch, row_place, chosen};
 ghost use Rattle.damped.specs.Damped.{damped_to, descent, candidate, small, better, accepted, rejected, tried};
 ghost use Rattle.damped.specs.Damped.{step};
 
-pub use fitting::levenberg_marquardt;
+pub use fitting::{levenberg_marquardt, unfitted};
 use geo::Geodetic;
 use problem::Altitude;
 use whitening::Equations;
@@ -66,13 +66,6 @@ pub struct SteppedAt {
     pub place: Geodetic,
 }
 
-// A solution of the normal equations, and zeros where the Cholesky fails.
-#[derive(Clone, Copy)]
-struct Solved {
-    ok: bool,
-    x: [f64; 4],
-}
-
 // A fit where `ok`, which is `Some` in the Rust; `None`, and zeros, where not.
 #[derive(Clone, Copy)]
 pub struct Fit {
@@ -97,25 +90,22 @@ fn damped(information: [f64; 16], lambda: f64) -> [f64; 16]
     let mut m = information;
     for i in 0usize..4 {
         let k = i * 4 + i;
-        m[k] = m[k] + lambda * binary64::max(information[k], DIAGONAL_MIN);
+        m[k] += lambda * binary64::max(information[k], DIAGONAL_MIN);
     }
     m
 }
 
-// x with m x = - gradient.
-fn descent(m: &[f64; 16], gradient: [f64; 4]) -> Solved
+// x with m x = - gradient, where the Cholesky does not fail.
+fn descent(m: &[f64; 16], gradient: [f64; 4]) -> Option<[f64; 4]>
     ensures { result ≡ descent m.now gradient }
 {
     let mut l = [0.0; 16];
-    if dense::cholesky(m, 4, &mut l) {
-        let mut x = [-gradient[0], -gradient[1], -gradient[2], -gradient[3]];
-        dense::solve(&l, 4, &mut x);
-        return Solved { ok: true, x };
+    if !dense::cholesky(m, 4, &mut l) {
+        return None;
     }
-    Solved {
-        ok: false,
-        x: [0.0; 4],
-    }
+    let mut x = [-gradient[0], -gradient[1], -gradient[2], -gradient[3]];
+    dense::solve(&l, 4, &mut x);
+    Some(x)
 }
 
 // The parameters after a step x.
@@ -134,24 +124,14 @@ fn candidate(params: [f64; 4], x: [f64; 4]) -> [f64; 4]
 fn better(next: f64, cost: f64) -> bool
     ensures { result ≡ better next cost }
 {
-    if binary64::is_finite(next) {
-        return next <= cost;
-    }
-    false
+    binary64::is_finite(next) && next <= cost
 }
 
 // Whether a step is below tolerance on every parameter.
 fn small(x: [f64; 4]) -> bool
     ensures { result ≡ small x }
 {
-    if binary64::abs(x[0]) < LM_TOLERANCE_M {
-        if binary64::abs(x[1]) < LM_TOLERANCE_M {
-            if binary64::abs(x[2]) < LM_TOLERANCE_M {
-                return binary64::abs(x[3]) < LM_TOLERANCE_M;
-            }
-        }
-    }
-    false
+    x.iter().all(|value| binary64::abs(*value) < LM_TOLERANCE_M)
 }
 
 // What a step x gives that is taken to `params`, where the normal equations are `next`.
@@ -272,22 +252,17 @@ impl Lm {
         ensures scratch_2 { Scratch r.new squared.new ranges.new a.new
             b.new c.new d.new }
     {
-        let params = self.params;
-        let information = self.information;
-        let gradient = self.gradient;
-        let m = damped(information, self.lambda);
-        let found = descent(&m, gradient);
-        if found.ok {
-            let x = found.x;
-            let candidate = candidate(params, x);
-            return tried(
-                self, place, x, candidate, sites, z, k, l, altitude, r, squared, ranges, a, b, c, d,
-            );
-        }
-        let stepped = Stepped {
-            state: self,
-            verdict: Verdict::Failed,
+        let m = damped(self.information, self.lambda);
+        let Some(x) = descent(&m, self.gradient) else {
+            let stepped = Stepped {
+                state: self,
+                verdict: Verdict::Failed,
+            };
+            return SteppedAt { stepped, place };
         };
-        SteppedAt { stepped, place }
+        let candidate = candidate(self.params, x);
+        tried(
+            self, place, x, candidate, sites, z, k, l, altitude, r, squared, ranges, a, b, c, d,
+        )
     }
 }

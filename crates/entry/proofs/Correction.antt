@@ -1,6 +1,7 @@
 -- With a correction of 0 every reply is document 01's; whatever the correction, a fix shows the metres as given: the statements of
 -- specs/Correction.antt. Metres that pass are a number, so their bits come back from the float (`to_bits-of_bits`); they are the last row of the record
 -- (`last-read`). Assumes nothing.
+use Rattle.std.proofs.Common.{Ok, Err}
 use Prim.Native.Nat.{ℕ, ◌<◌, ◌^◌}
 use mathlib.Core.Path.{◌≡◌, refl, ap, subst, ◌∙◌}
 use mathlib.Core.Bool.{Bool, true, false, cond}
@@ -18,9 +19,7 @@ use Rattle.problem.specs.declared.Altitude.TheVariants.{Barometric, Gnss}
 use Rattle.problem.specs.declared.Problem.{Problem}
 use Rattle.inputs.specs.declared.Fault.{Fault}
 use Rattle.inputs.specs.declared.Fault.TheVariants.{TornInput, TooMany, Disorder, BadField, ClockSize, Uncovered}
-use Rattle.inputs.specs.declared.Check.{Check}
-use Rattle.inputs.specs.declared.Check.TheVariants.{Passed, Refused}
-use Rattle.inputs.specs.Faults.{number_of}
+use Rattle.inputs.specs.Faults.{Check, passed, number_of}
 use Rattle.inputs.specs.Inputs.{Inputs, check_altitude, check_inputs, kind_at, metres_at, shown_of, problem_of}
 use Rattle.inputs.specs.Uncorrected.{old_check_inputs, Uncorrected}
 use Rattle.inputs.proofs.Order.{passed-altitude}
@@ -30,7 +29,8 @@ use Rattle.inputs.proofs.Uncorrected.{old-form-stays}
 use Rattle.rounds.specs.Setting.{Answer, fix, refused, no_fixed_point}
 use Rattle.rounds.specs.Solve.{number, solve_problem}
 use Rattle.rounds.specs.declared.answer.Refusal.{Refusal}
-use Rattle.rounds.specs.declared.answer.Refusal.TheVariants.{TooFew, NoConvergence, OutOfRange, Inconsistent, Singular, Ambiguous, Uncertain}
+use Rattle.rounds.specs.declared.answer.Refusal.TheVariants.{TooFew, NoConvergence, OutOfRange, NoFixedPoint, Inconsistent, Singular, Ambiguous}
+use Rattle.rounds.specs.declared.answer.Refusal.TheVariants.{Uncertain}
 use Rattle.record.specs.declared.content.Fix.{Fix}
 use Rattle.record.specs.Record.{Row, from, u8, u16, u32, i64, f64, three-f64, head, kind, metres, blank_record}
 use Rattle.record.specs.Record as shown
@@ -40,8 +40,8 @@ use Rattle.entry.specs.Correction.{old_replied, OldAnswersStay, MetresAsGiven}
 
 -- ---- a correction of 0
 same-reply : (I : Inputs) → Uncorrected I.altitude → (c : Check) → replied c I ≡ old_replied c I
-same-reply I u (Refused fault) = refl
-same-reply I u Passed = ap (λ (p : Problem). answered I.n p.shown (solve_problem p)) (old-form-stays.problem I u)
+same-reply I u (Err fault) = refl
+same-reply I u (Ok _) = ap (λ (p : Problem). answered I.n p.shown (solve_problem p)) (old-form-stays.problem I u)
 
 pub old-answers-stay : OldAnswersStay
 unfolding reply
@@ -82,6 +82,7 @@ refused-not-0 : (why : Refusal) → number (refused why) ≡ 0 → ⊥
 refused-not-0 (TooFew k) e = omega arith
 refused-not-0 NoConvergence e = omega arith
 refused-not-0 OutOfRange e = omega arith
+refused-not-0 NoFixedPoint e = omega arith
 refused-not-0 Inconsistent e = omega arith
 refused-not-0 Singular e = omega arith
 refused-not-0 Ambiguous e = omega arith
@@ -107,17 +108,17 @@ module _ (I : Inputs) (a : List ℕ) (there : I.altitude ≡ some a) (bytes : (k
   unfolding u64_at
   word = word_lt 8 a 8 bytes
 
-  metres-bits : check_inputs I ≡ Passed → to_bits binary64 (metres (problem_of I).shown) ≡ u64_at a 8
+  metres-bits : check_inputs I ≡ passed → to_bits binary64 (metres (problem_of I).shown) ≡ u64_at a 8
   unfolding problem_of f64_at
   metres-bits e =
       ap (λ (alt : Option (List ℕ)). to_bits binary64 (metres (shown_of alt))) there
       ∙ ap (to_bits binary64) (either-kind (eqb (kind_at a) 1) (metres_at a))
       ∙ to_bits-of_bits binary64 (u64_at a 8) word
-      (metres-number (metres_at a) (passed-metres a (subst (λ (alt : Option (List ℕ)). check_altitude alt ≡ Passed) there (passed-altitude I e))))
+      (metres-number (metres_at a) (passed-metres a (subst (λ (alt : Option (List ℕ)). check_altitude alt ≡ passed) there (passed-altitude I e))))
 
   reply-shows : (c : Check) → check_inputs I ≡ c → (replied c I).number ≡ 0 → u64_at (replied c I).bytes 168 ≡ u64_at a 8
-  reply-shows (Refused fault) e z = absurd (fault-not-0 fault z)
-  reply-shows Passed e z = answer-shows I.n (problem_of I).shown (u64_at a 8) word (metres-bits e) (solve_problem (problem_of I)) z
+  reply-shows (Err fault) e z = absurd (fault-not-0 fault z)
+  reply-shows (Ok _) e z = answer-shows I.n (problem_of I).shown (u64_at a 8) word (metres-bits e) (solve_problem (problem_of I)) z
 
 pub metres-as-given : MetresAsGiven
 unfolding reply

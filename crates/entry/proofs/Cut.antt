@@ -1,4 +1,5 @@
 -- A file that is too long gets the reply of what the program `solve` cuts it to: the statement of specs/Cut.antt. Assumes nothing.
+use Rattle.std.proofs.Common.{Ok, Err}
 use Prim.Native.Nat.{ℕ, ◌*◌, ◌-◌, ◌/◌, ◌%◌, ◌≤◌, ◌<◌, min}
 use mathlib.Core.Path.{◌≡◌, refl, ap, ap₂, sym, ◌∙◌}
 use mathlib.Core.Bool.{Bool, true, false, cond, ◌&&◌}
@@ -14,9 +15,7 @@ use Rattle.dense.proofs.Places.{room}
 use Rattle.receptions.specs.Receptions.{reception_bytes, reception_at}
 use Rattle.inputs.specs.declared.Fault.{Fault}
 use Rattle.inputs.specs.declared.Fault.TheVariants.{TornInput, TooMany, ClockSize}
-use Rattle.inputs.specs.declared.Check.{Check}
-use Rattle.inputs.specs.declared.Check.TheVariants.{Passed, Refused}
-use Rattle.inputs.specs.Faults.{number_of, detail_of, or_else, unless, first_to}
+use Rattle.inputs.specs.Faults.{Check, number_of, detail_of, or_else, unless, first_to}
 use Rattle.inputs.specs.Inputs.{Inputs, sized, untorn, check_reception, check_clock, check_inputs}
 use Rattle.entry.specs.Reply.{given, turned_away, replied, reply}
 use Rattle.entry.specs.Cut.{filed, one_too_many, taken, cut_of, present_bits, CutRepliesAlike}
@@ -38,7 +37,7 @@ module _ (clock alt ref : Option (List ℕ)) where
   unfolding reply check_inputs untorn
   many-reply rs h l = rw (eq-eqb (length rs % reception_bytes) 0 h, lt-leb (length rs / reception_bytes) 32 l) (go (sized 16 alt && sized 8 ref) _)
     where
-      go : (b : Bool) (I : Inputs) → replied (or_else (unless b TornInput) (Refused TooMany)) I ≡ turned_away (cond b TooMany TornInput) 0
+      go : (b : Bool) (I : Inputs) → replied (or_else (unless b TornInput) (Err TooMany)) I ≡ turned_away (cond b TooMany TornInput) 0
       go true I = without-n TooMany I.n (omega arith)
       go false I = without-n TornInput I.n (omega arith)
 
@@ -99,9 +98,9 @@ module _ (rs : List ℕ) (alt ref : Option (List ℕ)) where
   received = first_to (check_reception (reception_at rs)) n
 
   abbrev long : Check
-  long = or_else torn (or_else (unless (leb n 32) TooMany) (or_else received (Refused ClockSize)))
+  long = or_else torn (or_else (unless (leb n 32) TooMany) (or_else received (Err ClockSize)))
 
-  clock-long : (b : List ℕ) → 8192 < length b → n ≤ 32 → check_clock (some b) n ≡ Refused ClockSize
+  clock-long : (b : List ℕ) → 8192 < length b → n ≤ 32 → check_clock (some b) n ≡ Err ClockSize
   clock-long b h l = rw (ne_eqb (length b) (8 * (n * n)) (λ e. omega (arith, room n l)))
 
   check-long : (b : List ℕ) → 8192 < length b → check_inputs (filed rs (some b) alt ref) ≡ long
@@ -112,12 +111,12 @@ module _ (rs : List ℕ) (alt ref : Option (List ℕ)) where
       go true e = rw (e, clock-long b h (leb-true n 32 e))
       go false e = rw e
 
-  same : (x y z : Check) (I J : Inputs) → I.n ≡ J.n → replied (or_else x (or_else y (or_else z (Refused ClockSize)))) I
-      ≡ replied (or_else x (or_else y (or_else z (Refused ClockSize)))) J
-  same (Refused f) y z I J e = ap (turned_away f) e
-  same Passed (Refused f) z I J e = ap (turned_away f) e
-  same Passed Passed (Refused f) I J e = ap (turned_away f) e
-  same Passed Passed Passed I J e = ap (turned_away ClockSize) e
+  same : (x y z : Check) (I J : Inputs) → I.n ≡ J.n → replied (or_else x (or_else y (or_else z (Err ClockSize)))) I
+      ≡ replied (or_else x (or_else y (or_else z (Err ClockSize)))) J
+  same (Err f) y z I J e = ap (turned_away f) e
+  same (Ok _) (Err f) z I J e = ap (turned_away f) e
+  same (Ok _) (Ok _) (Err f) I J e = ap (turned_away f) e
+  same (Ok _) (Ok _) (Ok _) I J e = ap (turned_away ClockSize) e
 
   -- 8,193 bytes stand for every greater length
   cut-clock : (b cut : List ℕ) → 8192 < length b → 8192 < length cut → reply (filed rs (some b) alt ref) ≡ reply (filed rs (some cut) alt ref)

@@ -1,5 +1,6 @@
 -- A solve sees of its receptions only those below n: two inputs whose receptions agree there get one reply, and so do bytes and the list that they
 -- hold. Assumes nothing.
+use Rattle.std.proofs.Common.{Ok, Err}
 use Prim.Native.Nat.{ℕ, zero, suc, ◌*◌, ◌/◌, ◌%◌, ◌≤◌, ◌<◌}
 use mathlib.Core.Path.{◌≡◌, refl, sym, ap, ap₂, ◌∙◌}
 use mathlib.Core.Bool.{Bool, true, cond}
@@ -21,10 +22,8 @@ use Rattle.receptions.specs.Identities.{before, ascends}
 use Rattle.receptions.specs.Receptions.{reception_bytes, reception_at, listed_at, no_reception, fill_to, wholes, floats, fields_of}
 use Rattle.receptions.proofs.Filling.{fill-length, fill-at, fill-same}
 use Rattle.inputs.specs.declared.Fault.TheVariants.{TornInput, TooMany, Disorder, BadField}
-use Rattle.inputs.specs.declared.Check.{Check}
-use Rattle.inputs.specs.declared.Check.TheVariants.{Passed, Refused}
 use Rattle.inputs.specs.Domain.{good_reception}
-use Rattle.inputs.specs.Faults.{or_else, unless, first_to}
+use Rattle.inputs.specs.Faults.{Check, passed, or_else, unless, first_to}
 use Rattle.inputs.specs.Inputs.{Inputs, inputs_of, untorn, check_reception, check_clock, check_altitude, check_covered, check_inputs, metres_of, upper_at}
 use Rattle.inputs.specs.Inputs.{altitude_of, reference_of, shown_of, problem_of}
 use Rattle.rounds.specs.Solve.{solve_problem}
@@ -44,7 +43,7 @@ module _ (whole : Bool) (n : ℕ) (at at' : ℕ → Reception) (clock alt ref : 
 
   reception-same : (i : ℕ) → i < n → check_reception at i ≡ check_reception at' i
   unfolding check_reception ascends
-  reception-same zero l = ap (λ (r : Reception). or_else (unless (good_reception r) (BadField 0)) Passed) (A 0 l)
+  reception-same zero l = ap (λ (r : Reception). or_else (unless (good_reception r) (BadField 0)) passed) (A 0 l)
   reception-same (suc i) l =
       ap₂ (λ (q r : Reception). or_else (unless (good_reception r) (BadField (suc i))) (unless (before q.id r.id) (Disorder (suc i))))
       (A i (omega arith)) (A (suc i) l)
@@ -109,8 +108,8 @@ module _ (whole : Bool) (n : ℕ) (at at' : ℕ → Reception) (clock alt ref : 
       ∙ ap₂ (made (fields_of at' n).time (fields_of at' n).site_mm (metres_of at' n)) z-same noise-same
 
   replied-same : (c : Check) → replied c one ≡ replied c other
-  replied-same (Refused fault) = refl
-  replied-same Passed = ap (λ (P : Problem). answered n P.shown (solve_problem P)) problem-same
+  replied-same (Err fault) = refl
+  replied-same (Ok _) = ap (λ (P : Problem). answered n P.shown (solve_problem P)) problem-same
 
   reply-same : reply one ≡ reply other
   unfolding reply

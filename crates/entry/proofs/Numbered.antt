@@ -35,7 +35,7 @@ use Rattle.problem.specs.Problem.{site_at, position, transmit_m}
 use Rattle.words.specs.Words.{f64_at}
 use Rattle.receptions.specs.Receptions.{floats, fields_of}
 use Rattle.receptions.proofs.Filling.{fill-at}
-use Rattle.inputs.specs.declared.Check.TheVariants.{Passed}
+use Rattle.inputs.specs.Faults.{passed}
 use Rattle.inputs.specs.Domain.{good_coordinate, good_z, good_noise, good_entry}
 use Rattle.inputs.specs.Inputs.{Inputs, check_reception, check_inputs, entry_at, upper_at, problem_of}
 use Rattle.inputs.proofs.Order.{few, passed-receptions, first_of}
@@ -136,8 +136,8 @@ unfolding upper_at entry_at f64_at
 upper_fits clock n k =
     cond-fits binary64 (leb (k / n) (k % n)) (entry_at clock n (k / n) (k % n)) nought (of_bits-fits binary64 _) (of_bits-fits binary64 _)
 
-module _ (I : Inputs) (passes : check_inputs I ≡ Passed) where
-  checked : (j : ℕ) → j < I.n → check_reception I.at j ≡ Passed
+module _ (I : Inputs) (passes : check_inputs I ≡ passed) where
+  checked : (j : ℕ) → j < I.n → check_reception I.at j ≡ passed
   checked j l = first_of (check_reception I.at) I.n j (passed-receptions I passes) l
 
   at-site : (m j k : ℕ) → m / 3 ≡ j → m % 3 ≡ k → m < 3 * I.n → j < I.n → k < 3 → InEdge (nth (problem_of I).site m)
@@ -185,7 +185,7 @@ quotient-num z t r s a b c d =
     num-div binary64 (abs (z ⊖ t ⊖ r)) s (size-num (z ⊖ t ⊖ r) (num-sub binary64 (z ⊖ t) r (sub-num binary64 z t a b) c)) d
 
 -- ---- in every round
-module _ (I : Inputs) (passes : check_inputs I ≡ Passed) (held : NoisesHeld I) (S : Subset) (p : Option (List Float))
+module _ (I : Inputs) (passes : check_inputs I ≡ passed) (held : NoisesHeld I) (S : Subset) (p : Option (List Float))
     (t : InTime (rounds (problem_of I)) S p) (enough : (rounds (problem_of I)).minimum ≤ included (rounds (problem_of I)) S) (f : Fit)
     (e : best_fit_over (receptions_of (problem_of I)) S p ≡ gives f) where
   abbrev Q : Problem

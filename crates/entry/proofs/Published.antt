@@ -1,5 +1,6 @@
 -- What the record of every fix shows: what rounds proves of the fix is read back from its bytes, where `Stands` has it. In document 01's domain noise
 -- is above 0, and no clock's variance below it. Assumes nothing.
+use Rattle.std.proofs.Common.{Ok, Err}
 use Prim.Native.Nat.{ℕ, zero, suc, ◌+◌, ◌*◌, ◌<◌, ◌≤◌}
 use mathlib.Core.Path.{◌≡◌, refl, sym, ap, ap₂, subst, ◌∙◌}
 use mathlib.Core.Bool.{Bool, true, false, not, ◌&&◌}
@@ -30,10 +31,8 @@ use Rattle.receptions.specs.declared.Reception.{Reception}
 use Rattle.inputs.specs.declared.Given.{Given}
 use Rattle.inputs.specs.declared.Fault.{Fault}
 use Rattle.inputs.specs.declared.Fault.TheVariants.{TornInput, TooMany, Disorder, BadField, ClockSize, Uncovered}
-use Rattle.inputs.specs.declared.Check.{Check}
-use Rattle.inputs.specs.declared.Check.TheVariants.{Passed, Refused}
 use Rattle.inputs.specs.Domain.{good_noise, good_entry}
-use Rattle.inputs.specs.Faults.{number_of}
+use Rattle.inputs.specs.Faults.{Check, passed, number_of}
 use Rattle.inputs.specs.InDomain.{InDomain}
 use Rattle.inputs.specs.Inputs.{Inputs, check_inputs, problem_of}
 use Rattle.inputs.proofs.Sound.{in-domain}
@@ -88,7 +87,7 @@ given c a r = record { clock = c; altitude = a; reference = r }
 abbrev whole : ℕ → (ℕ → Reception) → Option (List ℕ) → Option (List ℕ) → Option (List ℕ) → Inputs
 whole n at c a r = record { whole = true; n = n; at = at; clock = c; altitude = a; reference = r }
 
-domain : (n : ℕ) (at : ℕ → Reception) (c a r : Option (List ℕ)) → check_inputs (whole n at c a r) ≡ Passed → InDomain (problem_of (whole n at c a r))
+domain : (n : ℕ) (at : ℕ → Reception) (c a r : Option (List ℕ)) → check_inputs (whole n at c a r) ≡ passed → InDomain (problem_of (whole n at c a r))
 domain n at none none none e = in-domain n at (given false false false) [] [] [] e
 domain n at none none (some r) e = in-domain n at (given false false true) [] [] r e
 domain n at none (some a) none e = in-domain n at (given false true false) [] a [] e
@@ -98,7 +97,7 @@ domain n at (some c) none (some r) e = in-domain n at (given true false true) c 
 domain n at (some c) (some a) none e = in-domain n at (given true true false) c a [] e
 domain n at (some c) (some a) (some r) e = in-domain n at (given true true true) c a r e
 
-pub passed-domain : (I : Inputs) → check_inputs I ≡ Passed → InDomain (problem_of I)
+pub passed-domain : (I : Inputs) → check_inputs I ≡ passed → InDomain (problem_of I)
 passed-domain I e = subst InDomain (torn-or-whole I) (domain I.n I.at I.clock I.altitude I.reference (came-whole I e))
 
 le_right : (x y : Float) → T (le x y) → T (not (is_nan y))
@@ -244,12 +243,13 @@ refusal-number : (r : Refusal) → refusal_number r ≡ 0 → ⊥
 refusal-number (why.TooFew c) e = omega arith
 refusal-number why.NoConvergence e = omega arith
 refusal-number why.OutOfRange e = omega arith
+refusal-number why.NoFixedPoint e = omega arith
 refusal-number why.Inconsistent e = omega arith
 refusal-number why.Singular e = omega arith
 refusal-number why.Ambiguous e = omega arith
 refusal-number why.Uncertain e = omega arith
 
-module _ (I : Inputs) (passes : check_inputs I ≡ Passed) where
+module _ (I : Inputs) (passes : check_inputs I ≡ passed) where
   answer-publishes : (a : Answer Fix) → solve_problem (problem_of I) ≡ a → number a ≡ 0 → Publishes (reply I).bytes
   answer-publishes (answers.fix x) q z =
       let P = problem_of I in
@@ -263,5 +263,5 @@ unfolding reply
 reply-publishes I z = go (check_inputs I) refl z
   where
     go : (k : Check) → check_inputs I ≡ k → (replied k I).number ≡ 0 → Publishes (reply I).bytes
-    go (Refused fault) e z = absurd (fault-number fault z)
-    go Passed e z = answer-publishes I e (solve_problem (problem_of I)) refl z
+    go (Err fault) e z = absurd (fault-number fault z)
+    go (Ok _) e z = answer-publishes I e (solve_problem (problem_of I)) refl z

@@ -1,5 +1,6 @@
 -- What every record is that a solve writes: that of a refusal with the number and the detail of document 01's table, or that
 -- of a fix whose mask is within n, whose dof is that of its mask, and whose covariance is symmetric. Assumes nothing.
+use Rattle.std.proofs.Common.{Ok, Err}
 use Prim.Native.Nat.{ℕ, ◌+◌, ◌^◌, ◌<◌, ◌≤◌}
 use mathlib.Core.Path.{◌≡◌, refl, ap, ◌∙◌}
 use mathlib.Core.Bool.{Bool, true, false, cond}
@@ -22,10 +23,8 @@ use Rattle.problem.specs.declared.Altitude.TheVariants.{None, Barometric, Gnss}
 use Rattle.problem.specs.declared.Problem.{Problem}
 use Rattle.inputs.specs.declared.Fault.{Fault}
 use Rattle.inputs.specs.declared.Fault.TheVariants.{TornInput, TooMany, Disorder, BadField, ClockSize, Uncovered}
-use Rattle.inputs.specs.declared.Check.{Check}
-use Rattle.inputs.specs.declared.Check.TheVariants.{Passed, Refused}
 use Rattle.inputs.specs.Domain.{good_metres}
-use Rattle.inputs.specs.Faults.{number_of, detail_of}
+use Rattle.inputs.specs.Faults.{Check, passed, number_of, detail_of}
 use Rattle.inputs.specs.InDomain.{altitude_good}
 use Rattle.inputs.specs.Inputs.{Inputs, check_inputs, kind_at, correction_at, metres_at, corrected, altitude_of, shown_of, problem_of}
 use Rattle.inputs.proofs.Places.{Located, located}
@@ -125,7 +124,7 @@ metres-held (some a) = go (eqb (kind_at a) 1)
 
 -- ---- a problem, and the altitude that its record shows
 
-module _ (I : Inputs) (passes : check_inputs I ≡ Passed) (alt : Altitude) where
+module _ (I : Inputs) (passes : check_inputs I ≡ passed) (alt : Altitude) where
   abbrev P : Problem
   P = problem_of I
 
@@ -149,6 +148,7 @@ module _ (I : Inputs) (passes : check_inputs I ≡ Passed) (alt : Altitude) wher
     refusal-told (why.TooFew c) q = few (too-few P (small I passes) c q)
     refusal-told why.NoConvergence q = plain refusals.no_convergence (omega arith) (inl (omega arith))
     refusal-told why.OutOfRange q = plain refusals.out_of_range (omega arith) (inl (omega arith))
+    refusal-told why.NoFixedPoint q = plain refusals.no_fixed_point (omega arith) (inl (omega arith))
     refusal-told why.Inconsistent q = plain refusals.inconsistent (omega arith) (inl (omega arith))
     refusal-told why.Singular q = plain refusals.singular (omega arith) (inl (omega arith))
     refusal-told why.Ambiguous q = plain refusals.ambiguous (omega arith) (inl (omega arith))
@@ -166,9 +166,9 @@ unfolding reply problem_of
 reply-written I = go (check_inputs I) refl
   where
     go : (k : Check) → check_inputs I ≡ k → Written (replied k I).number (replied k I).bytes
-    go (Refused fault) e =
+    go (Err fault) e =
         refused (detail_of fault) I.n (fault-told fault (located I fault e)) (considered (number_of fault) I.n (many-away I fault e)) refl
-    go Passed e =
+    go (Ok _) e =
         let alt = shown_of I.altitude in
         let finite = metres-finite alt (metres-good I.altitude (passed-altitude I e)) in
         answer-written I e alt (altitude-counts I.altitude) (metres-held I.altitude) finite (solve_problem (problem_of I)) refl

@@ -20,8 +20,7 @@ use Rattle.screen.proofs.Removal.{kept-below}
 use Rattle.problem.specs.declared.Altitude.{Altitude}
 use Rattle.receptions.specs.Receptions.{fill_to, wholes, floats, fields_of}
 use Rattle.receptions.proofs.Filling.{fill-at, fill-same}
-use Rattle.inputs.specs.declared.Check.{Check}
-use Rattle.inputs.specs.Faults.{passed}
+use Rattle.inputs.specs.Faults.{Check, passed}
 use Rattle.inputs.specs.Inputs.{Inputs, entry_at, check_inputs, metres_of, upper_at, altitude_of, shown_of, reference_of, problem_of}
 use Rattle.inputs.proofs.Order.{few}
 use Rattle.inputs.proofs.Sound.{upper}

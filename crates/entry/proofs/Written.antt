@@ -10,8 +10,7 @@ use mir.Val.{SFits}
 use lib.Pow.{pow_mono}
 use lib.ListN.{length, take, drop}
 use lib.Seq.{take_at}
-use Rattle.inputs.specs.declared.Check.{Check}
-use Rattle.inputs.specs.declared.Check.TheVariants.{Passed}
+use Rattle.inputs.specs.Faults.{Check, passed}
 use Rattle.inputs.specs.Inputs.{Inputs, check_inputs, problem_of}
 use Rattle.inputs.proofs.Order.{few}
 use Rattle.sets.specs.Mask.{has}
@@ -31,7 +30,7 @@ use Rattle.reader.proofs.Stood.{fix-stands}
 use Rattle.entry.specs.declared.Reply.{Reply}
 use Rattle.entry.specs.Reply.{record_of, replied, reply, Demanded, Promise}
 
-module _ (I : Inputs) (passes : check_inputs I ≡ Passed) where
+module _ (I : Inputs) (passes : check_inputs I ≡ passed) where
   pub small : (problem_of I).n ≤ 32
   unfolding problem_of
   small = few I passes

@@ -1,10 +1,9 @@
 -- What the correction of document 02's Item 8 comes to, of the whole reply. Statements only: proofs/Correction.antt
 -- proves them.
-use Rattle.std.specs.Prelude.{ℕ, ◌<◌, ◌≡◌, List, get_or}
+use Rattle.std.specs.Prelude.{ℕ, ◌<◌, ◌≡◌, List, get_or, Ok, Err}
 use Rattle.std.proofs.Math.Option.{some}
 use Rattle.words.specs.Words.{u64_at}
-use Rattle.inputs.specs.declared.Check.{Check}
-use Rattle.inputs.specs.declared.Check.TheVariants.{Passed, Refused}
+use Rattle.inputs.specs.Faults.{Check}
 use Rattle.inputs.specs.Inputs.{Inputs}
 use Rattle.inputs.specs.Uncorrected.{old_check_inputs, old_problem, Uncorrected}
 use Rattle.rounds.specs.Solve.{solve_problem}
@@ -13,8 +12,8 @@ use Rattle.entry.specs.Reply.{answered, turned_away, reply}
 
 -- document 01's reply: one altitude, which is solved with and shown
 abbrev pub old_replied : Check → Inputs → Reply
-old_replied (Refused fault) I = turned_away fault I.n
-old_replied Passed I = answered I.n (old_problem I).altitude (solve_problem (old_problem I))
+old_replied (Err fault) I = turned_away fault I.n
+old_replied (Ok _) I = answered I.n (old_problem I).altitude (solve_problem (old_problem I))
 
 -- "A correction of 0 is not added at all, since -0 metres would change, and with it each old answer stays."
 abbrev pub OldAnswersStay : Type 0

@@ -5,7 +5,7 @@ use Rattle.std.proofs.Math.Option.{Option}
 use Rattle.std.specs.Float.Ieee.{is_nan}
 use Rattle.binary64.specs.Meaning.{IsBinary64}
 use Rattle.sets.specs.Sets.{Subset}
-use Rattle.inputs.specs.declared.Check.TheVariants.{Passed}
+use Rattle.inputs.specs.Faults.{passed}
 use Rattle.inputs.specs.Inputs.{Inputs, check_inputs, problem_of}
 use Rattle.damped.specs.declared.Fit.{Fit}
 use Rattle.best.specs.Best.{gives}
@@ -19,7 +19,7 @@ NoisesHeld I = (i : ℕ) → i < I.n → IsBinary64 (I.at i).noise_m2
 -- the best fit is a number. So nothing meets `unnumbered` of rounds' `Ends`.
 abbrev pub ResidualsAreNumbers : Type 0
 ResidualsAreNumbers =
-    (I : Inputs) → check_inputs I ≡ Passed → NoisesHeld I
+    (I : Inputs) → check_inputs I ≡ passed → NoisesHeld I
     → (S : Subset) (p : Option (List Float)) → InTime (rounds (problem_of I)) S p
     → (rounds (problem_of I)).minimum ≤ included (rounds (problem_of I)) S
     → (f : Fit) → (rounds (problem_of I)).best_fit S p ≡ gives f

@@ -1,6 +1,6 @@
 -- What a solve answers to its four inputs, the bytes that it leaves in the lent output, and what it promises of both.
 -- Definitions and statements only.
-use Rattle.std.specs.Prelude.{ℕ, ◌/◌, ◌%◌, ◌≤◌, ◌≡◌, true, cond, List, eqb, ltb, length, take}
+use Rattle.std.specs.Prelude.{ℕ, ◌/◌, ◌%◌, ◌≤◌, ◌≡◌, true, cond, List, eqb, ltb, length, take, Ok, Err}
 use Rattle.refusals.specs.Refusals.{short_output}
 use Rattle.sets.specs.Mask.{has}
 use Rattle.problem.specs.declared.Altitude.{Altitude}
@@ -9,9 +9,7 @@ use Rattle.receptions.specs.declared.Reception.{Reception}
 use Rattle.receptions.specs.Receptions.{reception_bytes, reception_at, listed_at}
 use Rattle.inputs.specs.declared.Given.{Given}
 use Rattle.inputs.specs.declared.Fault.{Fault}
-use Rattle.inputs.specs.declared.Check.{Check}
-use Rattle.inputs.specs.declared.Check.TheVariants.{Passed, Refused}
-use Rattle.inputs.specs.Faults.{passed, number_of, detail_of}
+use Rattle.inputs.specs.Faults.{Check, passed, number_of, detail_of}
 use Rattle.inputs.specs.Inputs.{Inputs, inputs_of, check_inputs, problem_of}
 use Rattle.rounds.specs.Setting.{Answer, fix, refused, no_fixed_point}
 use Rattle.rounds.specs.Solve.{number, detail, solve_problem}
@@ -55,8 +53,8 @@ abbrev pub turned_away : Fault → ℕ → Reply
 turned_away fault n = record { number = number_of fault; bytes = refusal (number_of fault) (detail_of fault) n }
 
 abbrev pub replied : Check → Inputs → Reply
-replied (Refused fault) I = turned_away fault I.n
-replied Passed I = answered I.n (problem_of I).shown (solve_problem (problem_of I))
+replied (Err fault) I = turned_away fault I.n
+replied (Ok _) I = answered I.n (problem_of I).shown (solve_problem (problem_of I))
 
 unfoldable pub reply : Inputs → Reply
 reply I = replied (check_inputs I) I

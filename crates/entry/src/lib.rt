@@ -7,16 +7,16 @@ ghost use Rattle.receptions.specs.Held.{Holds, Filled};
 ghost use Rattle.inputs.specs.Faults.{number_of};
 ghost use Rattle.inputs.specs.Inputs.{inputs_of};
 ghost use Rattle.rounds.specs.Setting as setting;
-ghost use Rattle.rounds.specs.Solve.{refusal_number, refusal_detail};
 ghost use Rattle.rounds.specs.Held.{as_answer};
 ghost use Rattle.record.specs.declared.content.Fix as content;
 ghost use Rattle.record.specs.Record as shown;
 ghost use Rattle.entry.specs.Reply as reply;
 
-use inputs::{Check, Fault, Given};
+use inputs::{Fault, Given};
 use problem::Altitude;
 use receptions::Fields;
-use rounds::{Answer, Case, Refusal};
+use record::Fix;
+use rounds::Refusal;
 
 // The bytes of a record.
 const RECORD: usize = 176;
@@ -42,35 +42,6 @@ pub fn given(present: u32) -> Given
     }
 }
 
-// Document 01's number and detail of a refusal by the solve.
-pub fn number_of(why: Refusal) -> u32
-    ensures { result ≡ refusal_number why }
-{
-    match why {
-        Refusal::TooFew(included) => refusals::TOO_FEW,
-        Refusal::NoConvergence => refusals::NO_CONVERGENCE,
-        Refusal::OutOfRange => refusals::OUT_OF_RANGE,
-        Refusal::Inconsistent => refusals::INCONSISTENT,
-        Refusal::Singular => refusals::SINGULAR,
-        Refusal::Ambiguous => refusals::AMBIGUOUS,
-        Refusal::Uncertain => refusals::UNCERTAIN,
-    }
-}
-
-pub fn detail_of(why: Refusal) -> u32
-    ensures { result ≡ refusal_detail why }
-{
-    match why {
-        Refusal::TooFew(included) => included,
-        Refusal::NoConvergence => 0,
-        Refusal::OutOfRange => 0,
-        Refusal::Inconsistent => 0,
-        Refusal::Singular => 0,
-        Refusal::Ambiguous => 0,
-        Refusal::Uncertain => 0,
-    }
-}
-
 fn refused(number: u32, detail: u32, n: u32) -> Reply
     ensures { (result.number ≡ number) × (result.bytes ≡ shown.refusal number detail n) }
 {
@@ -79,17 +50,15 @@ fn refused(number: u32, detail: u32, n: u32) -> Reply
 }
 
 // The reply of an answer to a problem of n receptions.
-fn answered(n: u32, altitude: Altitude, answer: Answer) -> Reply
+fn answered(n: u32, altitude: Altitude, answer: Result<Fix, Refusal>) -> Reply
     ensures { (a : setting.Answer content.Fix) → answer ≡ as_answer a → result ≡ reply.answered n altitude a }
 {
-    let case = answer.case;
-    match case {
-        Case::Fix => {
-            let bytes = record::fix(n, altitude, answer.fix);
+    match answer {
+        Ok(fix) => {
+            let bytes = record::fix(n, altitude, fix);
             Reply { number: 0, bytes }
         }
-        Case::Refused(why) => refused(number_of(why), detail_of(why), n),
-        Case::NoFixedPoint => refused(refusals::NO_FIXED_POINT, 0, n),
+        Err(why) => refused(why.number(), why.detail(), n),
     }
 }
 
@@ -98,8 +67,8 @@ fn turned_away(fault: Fault, n: usize) -> Reply
     requires { 32 < n → 9 < number_of fault }
     ensures { result ≡ reply.turned_away fault n }
 {
-    let number = inputs::number_of(fault);
-    let detail = inputs::detail_of(fault);
+    let number = fault.number();
+    let detail = fault.detail();
     if n <= MOST {
         return refused(number, detail, n as u32);
     }
@@ -121,10 +90,9 @@ fn reply_to(
         (reply.given present) clock.now altitude.now reference.now) }
 {
     let g = given(present);
-    let found = inputs::check_inputs(f, whole, n, g, clock, altitude, reference);
-    match found {
-        Check::Refused(fault) => turned_away(fault, n),
-        Check::Passed => {
+    match inputs::check_inputs(f, whole, n, g, clock, altitude, reference) {
+        Err(fault) => turned_away(fault, n),
+        Ok(()) => {
             let p = inputs::problem_of(f, n, g, clock, altitude, reference);
             let shown = p.shown;
             let height = p.altitude;
@@ -163,7 +131,7 @@ pub fn solve_fields(
         out.old result out.new }
 {
     if out.len() < RECORD {
-        return refusals::SHORT_OUTPUT;
+        return refusals::Refusal::ShortOutput.number();
     }
     let r = reply_to(f, whole, n, clock, altitude, reference, present);
     let bytes = r.bytes;
@@ -175,10 +143,7 @@ pub fn solve_fields(
 pub fn few(n: usize) -> usize
     ensures { result ≡ cond (leb n 32) n 0 }
 {
-    if MOST < n {
-        return 0;
-    }
-    n
+    if n <= MOST { n } else { 0 }
 }
 
 // Solves one transmission's problem from its four inputs, and writes the record. `present` says which

@@ -15,28 +15,28 @@ mod decimals;
 mod lines;
 
 ghost use Rattle.std.specs.Prelude.{◌≡◌, ◌+◌, ◌%◌, ◌^◌, ◌≤◌, cond, List, [], length, if◌then◌else◌, ◌==◌, nat_eq, Float};
+ghost use Rattle.reader.specs.Read.{record_at};
 ghost use Rattle.near.specs.Near.{nearest_answer};
 ghost use Rattle.near.specs.Parts.{nearest_in, joined};
 ghost use Rattle.text.specs.Text.{text_of};
 ghost use Rattle.find_fixes.specs.Blocks as blocks;
 
-use decimals::{Number, number_at};
+use decimals::number_at;
 use geo::Geodetic;
 use linalg::Vec3;
 use lines::{fix_line, nearest_line};
 use near::Held;
+use refusals::Refusal;
 use std::io;
 use std::io::Read;
-use std::rt::Files;
+use std::ops::ControlFlow;
+use std::rt::{Env, Files};
 use text::Text;
 
 // The records of a block, and its bytes.
 const RECORDS: usize = 256;
 
 const BLOCK: usize = 45056;
-
-// In place of a refusal, where a file cannot be read: no call gives it.
-const UNREAD: u32 = 255;
 
 // The nearest fix so far, its place and how far it is; and why the file is turned away, 0 where it is not.
 #[derive(Clone, Copy)]
@@ -47,19 +47,11 @@ struct Best {
     refusal: u32,
 }
 
-// That, and whether the block was the last.
-#[derive(Clone, Copy)]
-struct Turn {
-    last: bool,
-    best: Best,
-}
-
-// What is asked for: those within the radius are named, or the nearest is found.
+// What is asked for: those within the radius are named, if there is one, and the nearest is found.
 #[derive(Clone, Copy)]
 struct Query {
     point: Vec3,
-    radius: f64,
-    name: bool,
+    named: Option<f64>,
 }
 
 fn say(rt: &impl Eprint, text: &str) {
@@ -96,8 +88,7 @@ fn worse(before: u32, refusal: u32) -> u32
 fn query_refusal(point: Vec3, radius: f64) -> u32 {
     let file = [0u8; 1];
     let mut places = [0u64; 1];
-    let mut count = 0u64;
-    near::within(&file[..0], point, radius, &mut places, &mut count)
+    refusals::answer(near::within(&file[..0], point, radius, &mut places))
 }
 
 // ---- the nearest
@@ -135,7 +126,10 @@ fn with_block(block: &[u8], base: u64, point: Vec3, best: Best) -> Best
         ≡ cond (nearest_answer block.now point == 0) best.refusal
         (nearest_answer block.now point) }
 {
-    let refusal = worse(best.refusal, near::nearest_refusal(block, point));
+    let refusal = worse(
+        best.refusal,
+        refusals::answer(near::check_nearest(block, point)),
+    );
     let next = near::join(held(best), base, near::nearest_in(block, point));
     Best {
         found: next.found,
@@ -147,6 +141,16 @@ fn with_block(block: &[u8], base: u64, point: Vec3, best: Best) -> Best
 
 // ---- those within the radius
 
+// The record at a place of a block; none of it where the block has none.
+fn record_of(block: &[u8], k: u64) -> &[u8]
+    ensures { result.now ≡ record_at block.now k }
+{
+    match reader::record_at(block, k) {
+        Ok(record) => record,
+        Err(_) => &block[..0],
+    }
+}
+
 // What is printed of place k of a block whose first record is at place `base`: the line of the fix there, by its place
 // in the file, if it is within the radius; else nothing. `near` finds it in the record by itself. Whatever is before
 // the block, it is what is printed of place base + k of all bytes so far.
@@ -156,7 +160,7 @@ fn line_at(block: &[u8], base: u64, k: u64, point: Vec3, radius: f64) -> Text
     ensures whole { blocks.LineInFile block.now point radius base k (text_of result) }
     ensures room { (length result.bytes ≡ 512) × (result.n ≤ 512) }
 {
-    let fix = near::nearest_in(reader::record_at(block, k), point);
+    let fix = near::nearest_in(record_of(block, k), point);
     let none = text::empty();
     if !fix.found {
         return none;
@@ -183,85 +187,69 @@ fn name_block(
 
 // Names those of a block, if that is asked. Whether nothing fails; where it does, that is said.
 fn named<R: Print + Eprint + Alloc>(rt: &R, block: &[u8], base: u64, query: Query) -> bool {
-    let point = query.point;
-    if query.name {
-        return told(rt, name_block(rt, block, base, point, query.radius));
+    match query.named {
+        Some(radius) => told(rt, name_block(rt, block, base, query.point, radius)),
+        None => true,
     }
-    true
 }
 
+// The nearest so far, once the next block is searched. It ends the search where that block is the last, or where those
+// in it cannot be named.
 fn search_block<R: Print + Eprint + Alloc>(
     rt: &R,
     file: &mut impl Read,
     base: u64,
     query: Query,
     best: Best,
-) -> Turn {
+) -> ControlFlow<Best, Best> {
     let mut block = [0u8; BLOCK];
     let n = host::read_full(file, &mut block);
-    let point = query.point;
     let shown = named(rt, &block[..n], base, query);
-    let next = with_block(&block[..n], base, point, best);
-    Turn {
-        last: n < BLOCK || !shown,
-        best: next,
+    let next = with_block(&block[..n], base, query.point, best);
+    if n < BLOCK || !shown {
+        return ControlFlow::Break(next);
     }
+    ControlFlow::Continue(next)
 }
 
-// The search of the file, block by block. Nothing says that a file ends, so the turns are counted down.
+// The search of the file, block by block. Nothing says that a file ends, so the turns are counted.
 fn search<R: Print + Eprint + Alloc>(rt: &R, file: &mut impl Read, query: Query) -> Best {
-    let mut turns = u64::MAX;
     let mut base = 0u64;
     let mut best = none_yet();
-    while turns > 0 {
-        let searched = search_block(rt, file, base, query, best);
-        let next = searched.best;
-        best = next;
-        if searched.last {
-            return best;
+    for _ in 0..u64::MAX {
+        match search_block(rt, file, base, query, best) {
+            ControlFlow::Break(last) => return last,
+            ControlFlow::Continue(next) => best = next,
         }
-        base = std::num::wrapping_add_u64(base, RECORDS as u64);
-        turns -= 1;
+        base = base.wrapping_add(RECORDS as u64);
     }
     best
 }
 
 // ---- the whole
 
-// In place of the nearest fix of a file that cannot be read.
-fn unread() -> Best {
-    Best {
-        found: false,
-        place: 0,
-        distance: 0.0,
-        refusal: UNREAD,
-    }
-}
-
-// The nearest fix of the file, and those within the radius named, if that is asked. A file that cannot be read is said.
-fn searched<R: Files + Print + Eprint + Alloc>(rt: &R, path: &[u8], query: Query) -> Best {
+// The nearest fix of the file, and those within the radius named, if that is asked. None where the file cannot be read,
+// which is said.
+fn searched<R: Files + Print + Eprint + Alloc>(rt: &R, path: &[u8], query: Query) -> Option<Best> {
     let mut file = match host::open_read(rt, path) {
         Ok(file) => file,
         Err(error) => {
             host::fail(rt, path, error);
-            return unread();
+            return None;
         }
     };
     let best = search(rt, &mut file, query);
-    if !host::sound(rt, &mut file, path) {
-        return unread();
-    }
-    best
+    host::sound(rt, &mut file, path).then_some(best)
 }
 
 // Says why a file is turned away, or else why the query is. Whether neither is.
 fn passed(rt: &impl Eprint, file: u32, query: u32) -> bool {
-    if file == refusals::TORN_FILE {
+    if file == Refusal::TornFile.number() {
         say(
             rt,
             "find_fixes: the file is not whole records of 176 bytes (16, torn file)\n",
         );
-    } else if file == refusals::MALFORMED_RECORD {
+    } else if file == Refusal::MalformedRecord.number() {
         say(
             rt,
             "find_fixes: the file has a record that breaks a rule (18, malformed record)\n",
@@ -285,26 +273,19 @@ fn place_asked(point: Vec3, good: bool) -> Vec3 {
 
 fn find<R: Files + Print + Eprint + Alloc>(rt: &R, path: &[u8], point: Vec3, radius: f64) {
     let refusal = query_refusal(point, radius);
-    let from = place_asked(point, refusal == 0);
-    let best = searched(
-        rt,
-        path,
-        Query {
-            point: from,
-            radius,
-            name: false,
-        },
-    );
+    let nearest = Query {
+        point: place_asked(point, refusal == 0),
+        named: None,
+    };
+    let Some(best) = searched(rt, path, nearest) else {
+        return;
+    };
     if passed(rt, best.refusal, refusal) && told(rt, print(rt, nearest_line(held(best)))) {
-        searched(
-            rt,
-            path,
-            Query {
-                point,
-                radius,
-                name: true,
-            },
-        );
+        let within = Query {
+            point,
+            named: Some(radius),
+        };
+        searched(rt, path, within);
     }
 }
 
@@ -320,23 +301,16 @@ fn point_of(x: f64, y: f64, z: f64, ecef: bool) -> Vec3 {
     })
 }
 
-// Searches by four numbers, if each is good.
-fn asked<R: Files + Print + Eprint + Alloc>(
-    rt: &R,
-    path: &[u8],
-    x: Number,
-    y: Number,
-    z: Number,
-    radius: Number,
-    ecef: bool,
-) {
-    if x.good && y.good && z.good && radius.good {
-        find(
-            rt,
-            path,
-            point_of(x.value, y.value, z.value, ecef),
-            radius.value,
-        );
+// Searches by the four numbers from argument i on, if each is good.
+fn asked<R: Files + Print + Eprint + Alloc + Env>(rt: &R, path: &[u8], i: usize, ecef: bool)
+    requires { i ≤ 3 }
+{
+    let x = number_at(rt, i);
+    let y = number_at(rt, i + 1);
+    let z = number_at(rt, i + 2);
+    let radius = number_at(rt, i + 3);
+    if let (Some(x), Some(y), Some(z), Some(radius)) = (x, y, z, radius) {
+        find(rt, path, point_of(x, y, z, ecef), radius);
     } else {
         say(
             rt,
@@ -353,25 +327,9 @@ fn main(rt: HostRuntime) {
     let ecef = check::same(&word[..w], b"--ecef");
     let count = host::arg_count(&rt);
     if ecef && count == 7 {
-        asked(
-            &rt,
-            &path[..p],
-            number_at(&rt, 3),
-            number_at(&rt, 4),
-            number_at(&rt, 5),
-            number_at(&rt, 6),
-            true,
-        );
+        asked(&rt, &path[..p], 3, true);
     } else if !ecef && count == 6 {
-        asked(
-            &rt,
-            &path[..p],
-            number_at(&rt, 2),
-            number_at(&rt, 3),
-            number_at(&rt, 4),
-            number_at(&rt, 5),
-            false,
-        );
+        asked(&rt, &path[..p], 2, false);
     } else {
         say(
             &rt,

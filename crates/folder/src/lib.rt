@@ -7,10 +7,11 @@
 // and 4,355 for every torn one.
 #![tactic(auto)]
 
-ghost use Rattle.std.specs.Prelude.{◌≤◌, cond, ◌≡◌, length};
+ghost use Rattle.std.specs.Prelude.{◌≤◌, cond, ◌≡◌, Some, IfOk, IfSome};
 ghost use Rattle.io.specs.Counts.{IsPrefixLen};
 ghost use Rattle.entry.specs.Cut.{taken, present_bits};
 
+use arrayvec::ArrayVec;
 use std::io::{ErrorKind, Read};
 use std::rt::Files;
 
@@ -24,105 +25,54 @@ const ROOM: usize = 4112;
 // How many bytes are read on at a time.
 const BLOCK: usize = 4096;
 
-// In the place of a file that is absent.
-const ABSENT: i32 = -1;
+// That a file is there and cannot be read, or that the folder cannot be opened: it is said on standard error.
+#[derive(Clone, Copy, Debug, PartialEq, Eq)]
+pub struct Unreadable;
 
-// In the place of a file that is there and cannot be opened.
-const CLOSED: i32 = -2;
-
-// The first n bytes of a file that is there. It is not `read` where it is there and cannot be.
-#[derive(Clone, Copy)]
-pub struct Part {
-    pub read: bool,
-    pub there: bool,
-    pub n: usize,
-}
-
-// Byte i of a path: the folder, a slash, the name, zeros.
-fn byte_at(folder: &[u8], name: &[u8], i: usize) -> u8 {
-    let n = folder.len();
-    if i < n {
-        return folder[i];
-    }
-    if i == n {
-        return b'/';
-    }
-    let k = i - n - 1;
-    if k < name.len() {
-        return name[k];
-    }
-    0
-}
-
-// The path of the folder's file of this name, and zeros.
-fn joined(folder: &[u8], name: &[u8]) -> [u8; ROOM]
-    ensures { 4112 ≡ length result }
-{
-    let mut path = [0u8; ROOM];
-    for i in 0..ROOM {
-        path[i] = byte_at(folder, name, i);
+// The path of the folder's file of this name, up to what there is room for.
+fn joined(folder: &[u8], name: &[u8]) -> ArrayVec<u8, ROOM> {
+    let mut path = ArrayVec::new();
+    for byte in folder.iter().chain(b"/").chain(name) {
+        if path.try_push(*byte).is_err() {
+            break;
+        }
     }
     path
 }
 
-// As much of n as the path has.
-fn within(n: usize, path: &[u8]) -> usize
-    ensures { IsPrefixLen result path.now }
-{
-    if n > path.len() {
-        return path.len();
-    }
-    n
-}
-
-// How many bytes there are before the zeros, if they are not cut.
-fn size(folder: &[u8], name: &[u8]) -> usize {
-    let n = folder.len();
-    let k = name.len();
-    if n > ROOM {
-        return ROOM;
-    }
-    if k > ROOM {
-        return ROOM;
-    }
-    n + 1 + k
-}
-
-// The file, or ABSENT, or, said on standard error, CLOSED.
-fn opened<R: Files + Eprint + Alloc>(rt: &R, path: &[u8]) -> Result<R::File, i32> {
+// The file, or none where it is absent.
+fn opened<R: Files + Eprint + Alloc>(rt: &R, path: &[u8]) -> Result<Option<R::File>, Unreadable> {
     match host::open_read(rt, path) {
-        Ok(file) => Ok(file),
+        Ok(file) => Ok(Some(file)),
         Err(error) => {
             if error.kind() == ErrorKind::NotFound {
-                return Err(ABSENT);
+                return Ok(None);
             }
             host::fail(rt, path, error);
-            Err(CLOSED)
+            Err(Unreadable)
         }
     }
 }
 
-// Closes the file. Whether reading on in it does not fail; where it does, that is said.
-fn closed<R: Eprint + Alloc>(rt: &R, mut file: impl Read + Drop, path: &[u8]) -> bool {
-    host::sound(rt, &mut file, path)
-}
-
-// The part that is read of a file which is ABSENT or CLOSED: none.
-fn missing(why: i32) -> Part
-    ensures { result.n ≡ 0 }
+// Closes the file. How many bytes were taken of it, if reading on in it does not fail; where it does, that is said.
+fn closed<R: Eprint + Alloc>(
+    rt: &R,
+    mut file: impl Read + Drop,
+    path: &[u8],
+    n: usize,
+) -> Result<Option<usize>, Unreadable>
+    ensures { IfOk result (λ part. part ≡ Some n) }
 {
-    Part {
-        read: why == ABSENT,
-        there: false,
-        n: 0,
+    if host::sound(rt, &mut file, path) {
+        Ok(Some(n))
+    } else {
+        Err(Unreadable)
     }
 }
 
 // Whether the folder can be opened. Where it cannot, that is said.
 fn there<R: Files + Eprint + Alloc>(rt: &R, folder: &[u8]) -> bool {
-    let path = joined(folder, b".");
-    let n = within(size(folder, b"."), &path);
-    match host::open_read(rt, &path[..n]) {
+    match host::open_read(rt, joined(folder, b".").as_slice()) {
         Ok(_) => true,
         Err(error) => {
             host::fail(rt, folder, error);
@@ -131,21 +81,20 @@ fn there<R: Files + Eprint + Alloc>(rt: &R, folder: &[u8]) -> bool {
     }
 }
 
-// Reads the file at this path to the start of `buf`, as much of it as there is room for.
-fn read_at<R: Files + Eprint + Alloc>(rt: &R, path: &[u8], buf: &mut [u8]) -> Part
-    ensures { IsPrefixLen result.n buf.new }
+// Reads the file at this path to the start of `buf`, as much of it as there is room for. How many bytes there are; none
+// where it is absent.
+fn read_at<R: Files + Eprint + Alloc>(
+    rt: &R,
+    path: &[u8],
+    buf: &mut [u8],
+) -> Result<Option<usize>, Unreadable>
+    ensures { IfOk result (λ part. IfSome part (λ n. IsPrefixLen n buf.new)) }
 {
-    let mut file = match opened(rt, path) {
-        Ok(file) => file,
-        Err(why) => return missing(why),
+    let Some(mut file) = opened(rt, path)? else {
+        return Ok(None);
     };
     let n = host::read_full(&mut file, buf);
-    let read = closed(rt, file, path);
-    Part {
-        read,
-        there: true,
-        n,
-    }
+    closed(rt, file, path, n)
 }
 
 // Reads the folder's file of this name likewise.
@@ -154,12 +103,10 @@ pub fn read_file<R: Files + Eprint + Alloc>(
     folder: &[u8],
     name: &[u8],
     buf: &mut [u8],
-) -> Part
-    ensures { IsPrefixLen result.n buf.new }
+) -> Result<Option<usize>, Unreadable>
+    ensures { IfOk result (λ part. IfSome part (λ n. IsPrefixLen n buf.new)) }
 {
-    let path = joined(folder, name);
-    let n = within(size(folder, name), &path);
-    read_at(rt, &path[..n], buf)
+    read_at(rt, joined(folder, name).as_slice(), buf)
 }
 
 // Reads on, by a block or up to the end.
@@ -170,18 +117,16 @@ fn some_more(file: &mut impl Read) -> usize
     host::read_full(file, &mut buf)
 }
 
-// Whether what is left of the file is a whole number of receptions. A block is none, so the bytes that are
-// over are carried to the next. Nothing says that a file ends, so the turns are counted down.
+// Whether what is left of the file is a whole number of receptions. A block is none, so the bytes that are over are
+// carried to the next. Nothing says that a file ends, so the turns are counted.
 fn rest_is_whole(file: &mut impl Read) -> bool {
-    let mut turns = u64::MAX;
     let mut over = 0usize;
-    while turns > 0 {
+    for _ in 0..u64::MAX {
         let n = some_more(file);
         over = (over + n) % receptions::RECEPTION_BYTES;
         if n < BLOCK {
             return over == 0;
         }
-        turns -= 1;
     }
     true
 }
@@ -191,43 +136,40 @@ fn rest_is_whole(file: &mut impl Read) -> bool {
 fn taken(n: usize, whole: bool) -> usize
     ensures { (result ≡ taken n whole) × (result ≤ n) }
 {
-    if n < ONE_TOO_MANY {
-        return n;
-    }
-    if whole {
+    if n < ONE_TOO_MANY || whole {
         return n;
     }
     n - 1
 }
 
 // Reads the receptions at this path, of which `buf` has room for ONE_TOO_MANY bytes.
-fn receptions_at<R: Files + Eprint + Alloc>(rt: &R, path: &[u8], buf: &mut [u8]) -> Part
-    ensures { IsPrefixLen result.n buf.new }
+fn receptions_at<R: Files + Eprint + Alloc>(
+    rt: &R,
+    path: &[u8],
+    buf: &mut [u8],
+) -> Result<Option<usize>, Unreadable>
+    ensures { IfOk result (λ part. IfSome part (λ n. IsPrefixLen n buf.new)) }
 {
-    let mut file = match opened(rt, path) {
-        Ok(file) => file,
-        Err(why) => return missing(why),
+    let Some(mut file) = opened(rt, path)? else {
+        return Ok(None);
     };
     let n = host::read_full(&mut file, buf);
     let whole = rest_is_whole(&mut file);
-    let read = closed(rt, file, path);
-    Part {
-        read,
-        there: true,
-        n: taken(n, whole),
-    }
+    closed(rt, file, path, taken(n, whole))
 }
 
-// Reads the folder's receptions.bin likewise. They are not `read` either where the folder cannot be opened.
-pub fn read_receptions<R: Files + Eprint + Alloc>(rt: &R, folder: &[u8], buf: &mut [u8]) -> Part
-    ensures { IsPrefixLen result.n buf.new }
+// Reads the folder's receptions.bin likewise. They are not read either where the folder cannot be opened.
+pub fn read_receptions<R: Files + Eprint + Alloc>(
+    rt: &R,
+    folder: &[u8],
+    buf: &mut [u8],
+) -> Result<Option<usize>, Unreadable>
+    ensures { IfOk result (λ part. IfSome part (λ n. IsPrefixLen n buf.new)) }
 {
     if !there(rt, folder) {
-        return missing(CLOSED);
+        return Err(Unreadable);
     }
-    let path = joined(folder, b"receptions.bin");
-    let n = within(size(folder, b"receptions.bin"), &path);
-    receptions_at(rt, &path[..n], buf)
+    receptions_at(rt, joined(folder, b"receptions.bin").as_slice(), buf)
 }
 
 // The bit of an input that is there.

@@ -36,6 +36,11 @@ by-pi : (pi ⊘ decimal 180 0 ≡ # 0x3F91DF46A2529D39) × (decimal 180 0 ⊘ pi
 unfolding round div of_bits
 by-pi = (refl, refl)
 
+-- and so are the library's, whose π has these bits
+pub by-pi-bits : (# 0x400921FB54442D18 ⊘ # 0x4066800000000000 ≡ # 0x3F91DF46A2529D39) × (# 0x4066800000000000 ⊘ # 0x400921FB54442D18 ≡ # 0x404CA5DC1A63C1F8)
+unfolding div of_bits
+by-pi-bits = (refl, refl)
+
 -- the literals `1e-9` and `1000.0`
 pub nano : decimal 1 9 ≡ # 0x3E112E0BE826D695
 unfolding round of_bits

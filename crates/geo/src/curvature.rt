@@ -8,7 +8,6 @@ ghost use Rattle.geo.specs.Geo.{prime_vertical};
 ghost use Rattle.geo.specs.Held.{BelowOne};
 
 use crate::{A, E2};
-use wide::Wide;
 
 // A value from 1/2 up to 1 that is m times 2^-53 has the bits OFFSET + m.
 const OFFSET: u64 = 0x3fd0_0000_0000_0000;
@@ -38,13 +37,10 @@ fn nearest(m: u64, r: u64) -> bool
     requires { (m < 2 ^ 53) × (r < 2 ^ 53) }
     ensures { result ≡ true → Nearest (m * 2 ^ 53) r }
 {
-    let square = wide::mul(r, r);
-    let number = wide::mul(m, 0x20_0000_0000_0000);
-    let side = Wide { hi: 0, lo: r };
-    if wide::le(number, wide::add(square, side)) {
-        return !wide::le(wide::add(number, side), square);
-    }
-    false
+    let side = r as u128;
+    let square = side * side;
+    let number = m as u128 * 0x20_0000_0000_0000;
+    number <= square + side && square < number + side
 }
 
 // The root of u, which is s if s is the nearest.

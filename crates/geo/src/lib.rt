@@ -22,11 +22,6 @@ pub const E2: f64 = F * (2.0 - F);
 // The speed of light, metres per second (exact by definition of the metre).
 pub const C: f64 = 299_792_458.0;
 
-// The radians of a degree, pi / 180, and the degrees of a radian, 180 / pi.
-const RADIANS: f64 = 0.017453292519943295769236907684886;
-
-const DEGREES: f64 = 57.295779513082320876798154814105;
-
 // A geodetic position: degrees, degrees, metres above the WGS 84 ellipsoid.
 #[derive(Clone, Copy)]
 pub struct Geodetic {
@@ -35,18 +30,17 @@ pub struct Geodetic {
     pub height_m: f64,
 }
 
-// Rust's `f64::to_radians`.
+// One multiplication by the rounded constant, as document 01 has it.
 fn to_radians(x: f64) -> f64
     ensures { result ≡ to_radians x }
 {
-    x * RADIANS
+    x.to_radians()
 }
 
-// Rust's `f64::to_degrees`.
 fn to_degrees(x: f64) -> f64
     ensures { result ≡ to_degrees x }
 {
-    x * DEGREES
+    x.to_degrees()
 }
 
 pub fn to_ecef(position: Geodetic) -> [f64; 3]
@@ -93,17 +87,11 @@ fn bowring(p: f64, z: f64, lat: f64) -> Round
     }
 }
 
-// Whether a and b are numbers with the same bits.
+// Whether a and b have the same bits, which 0 and -0 have not.
 fn same(a: f64, b: f64) -> bool
     ensures { result ≡ true → a ≡ b }
 {
-    if a != a {
-        return false;
-    }
-    if b != b {
-        return false;
-    }
-    f64::to_bits(a) == f64::to_bits(b)
+    binary64::to_bits(a) == binary64::to_bits(b)
 }
 
 // ECEF to geodetic by Bowring's iteration, a fixed six rounds (converged to well under a
@@ -152,17 +140,7 @@ pub fn enu_basis(lat_deg: f64, lon_deg: f64) -> [[f64; 3]; 3]
 fn millimetres(metres: f64) -> i64
     ensures { result ≡ millimetres metres }
 {
-    let mm = binary64::round(metres * 1000.0);
-    if mm >= -9223372036854775808.0 {
-        if mm < 9223372036854775808.0 {
-            return std::num::truncating_f64_to_i64(mm);
-        }
-        return 9223372036854775807;
-    }
-    if mm != mm {
-        return 0;
-    }
-    -9223372036854775808
+    std::num::saturating_f64_to_i64(binary64::round(metres * 1000.0))
 }
 
 // ECEF metres rounded to whole millimetres, the form a clock model stores a site in.

@@ -19,8 +19,7 @@ use Rattle.receptions.proofs.Filling.{fill-same}
 use Rattle.receptions.proofs.Unpacked.{ascending-held, time-held, z-held, noise-held, filler-held, site-held}
 use Rattle.inputs.specs.declared.Given.{Given}
 use Rattle.inputs.specs.declared.Fault.TheVariants.{Disorder, BadField}
-use Rattle.inputs.specs.declared.Check.{Check}
-use Rattle.inputs.specs.Faults.{or_else, unless, first_to}
+use Rattle.inputs.specs.Faults.{Check, or_else, unless, first_to}
 use Rattle.inputs.specs.Domain.{good_time, good_site, good_z, good_noise, good_reception}
 use Rattle.inputs.specs.Inputs.{inputs_of, check_reception, untorn, check_inputs, metres_of}
 

@@ -1,4 +1,5 @@
 -- Where a disorder or a bad field can be: what document 01's column 'Detail' says of both. Assumes nothing.
+use Rattle.std.proofs.Common.{Ok, Err}
 use Prim.Native.Nat.{ℕ, zero, suc, ◌+◌, ◌-◌, ◌*◌, ◌≤◌, ◌<◌}
 use mathlib.Core.Path.{◌≡◌, refl, subst}
 use mathlib.Core.Bool.{Bool, true, false}
@@ -12,10 +13,8 @@ use lib.ListN.{length}
 use Rattle.receptions.specs.declared.Reception.{Reception}
 use Rattle.inputs.specs.declared.Fault.{Fault}
 use Rattle.inputs.specs.declared.Fault.TheVariants.{TornInput, TooMany, Disorder, BadField, ClockSize, Uncovered}
-use Rattle.inputs.specs.declared.Check.{Check}
-use Rattle.inputs.specs.declared.Check.TheVariants.{Passed, Refused}
 use Rattle.inputs.specs.Domain.{good_reception, good_altitude}
-use Rattle.inputs.specs.Faults.{or_else, unless, first_to}
+use Rattle.inputs.specs.Faults.{Check, or_else, unless, first_to}
 use Rattle.receptions.specs.Identities.{ascends}
 use Rattle.inputs.specs.Inputs.{Inputs, untorn, check_reception, good_row_to, check_row, check_clock, check_altitude}
 use Rattle.inputs.specs.Inputs.{kind_at, correction_at, metres_at, check_covered, check_inputs}
@@ -30,12 +29,12 @@ Located ClockSize = T true
 Located Uncovered = T true
 
 abbrev Locates : Check → Type 0
-Locates Passed = T true
-Locates (Refused fault) = Located fault
+Locates (Ok done) = T true
+Locates (Err fault) = Located fault
 
 or-locates : (x y : Check) → Locates x → Locates y → Locates (or_else x y)
-or-locates Passed y p q = q
-or-locates (Refused fault) y p q = p
+or-locates (Ok done) y p q = q
+or-locates (Err fault) y p q = p
 
 unless-locates : (good : Bool) (fault : Fault) → Located fault → Locates (unless good fault)
 unless-locates true fault l = tt
@@ -96,5 +95,5 @@ module _ (I : Inputs) where
   unfolding check_inputs
   inputs-locate = or-locates (unless (untorn I) TornInput) _ (unless-locates (untorn I) TornInput tt) (few-locate (leb I.n 32) refl)
 
-pub located : (I : Inputs) (fault : Fault) → check_inputs I ≡ Refused fault → Located fault
+pub located : (I : Inputs) (fault : Fault) → check_inputs I ≡ Err fault → Located fault
 located I fault e = subst Locates e (inputs-locate I)

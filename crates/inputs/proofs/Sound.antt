@@ -23,9 +23,8 @@ use Rattle.receptions.specs.declared.Reception.{Reception}
 use Rattle.receptions.specs.declared.Fields.{Fields}
 use Rattle.receptions.specs.Receptions.{fill_to, wholes, floats, fields_of}
 use Rattle.inputs.specs.declared.Fault.TheVariants.{Disorder, BadField}
-use Rattle.inputs.specs.declared.Check.TheVariants.{Passed}
 use Rattle.inputs.specs.declared.Given.{Given}
-use Rattle.inputs.specs.Faults.{unless, first_to}
+use Rattle.inputs.specs.Faults.{passed, unless, first_to}
 use Rattle.inputs.specs.Domain.{good_time, good_coordinate, good_site, good_z, good_noise, good_reception, good_entry, good_metres, good_correction}
 use Rattle.inputs.specs.Domain.{is_zero, good_altitude}
 use Rattle.inputs.specs.Inputs.{entry_at, Inputs, inputs_of, check_reception, good_row_to, check_row, kind_at, correction_at, metres_at, check_altitude}
@@ -39,8 +38,8 @@ use Rattle.receptions.proofs.Meaning.{identities-ordered}
 use Rattle.inputs.proofs.Held.{metres_in, metres-held}
 
 -- ---- a reception that passes
-module _ (from : ℕ → Reception) (i : ℕ) (e : check_reception from i ≡ Passed) where
-  steps : (unless (good_reception (from i)) (BadField i) ≡ Passed) × (unless (ascends (λ k. (from k).id) i) (Disorder i) ≡ Passed)
+module _ (from : ℕ → Reception) (i : ℕ) (e : check_reception from i ≡ passed) where
+  steps : (unless (good_reception (from i)) (BadField i) ≡ passed) × (unless (ascends (λ k. (from k).id) i) (Disorder i) ≡ passed)
   unfolding check_reception
   steps = or-of _ _ e
 
@@ -91,7 +90,7 @@ row-good clock n i (suc k) m e h =
     go (inl q) c f = rw q c
     go (inr q) c f = f q
 
-entry-good : (clock : List ℕ) (n i j : ℕ) → first_to (check_row clock n) n ≡ Passed → i ≤ j → j < n → good_entry i j (entry_at clock n i j) ≡ true
+entry-good : (clock : List ℕ) (n i j : ℕ) → first_to (check_row clock n) n ≡ passed → i ≤ j → j < n → good_entry i j (entry_at clock n i j) ≡ true
 entry-good clock n i j e h l =
     let d : i + (j - i) ≡ j = omega arith in
     rw d at (row-good clock n i (n - i) (j - i) (good_of _ (BadField (100 + i)) (first_of (check_row clock n) n i e (omega arith))) (omega arith))
@@ -105,10 +104,10 @@ tested : (kind : ℕ) (correction : ℤ) (metres : Float) → good_altitude kind
 unfolding good_altitude
 tested kind correction metres e = (both_of ((eqb kind 1 && good_correction correction) || (eqb kind 2 && is_zero correction)) (good_metres metres) e).1
 
-pub passed-metres : (a : List ℕ) → check_altitude (some a) ≡ Passed → good_metres (metres_at a) ≡ true
+pub passed-metres : (a : List ℕ) → check_altitude (some a) ≡ passed → good_metres (metres_at a) ≡ true
 passed-metres a e = tested (kind_at a) (correction_at a) (metres_at a) (good_of (good_altitude (kind_at a) (correction_at a) (metres_at a)) (BadField 200) e)
 
-pub metres-good : (alt : Option (List ℕ)) → check_altitude alt ≡ Passed → altitude_good (shown_of alt) ≡ true
+pub metres-good : (alt : Option (List ℕ)) → check_altitude alt ≡ passed → altitude_good (shown_of alt) ≡ true
 metres-good none e = refl
 metres-good (some a) e = go (eqb (kind_at a) 1) (passed-metres a e)
   where
@@ -117,8 +116,8 @@ metres-good (some a) e = go (eqb (kind_at a) 1) (passed-metres a e)
     go false f = f
 
 -- ---- receptions that pass
-module _ (I : Inputs) (e : check_inputs I ≡ Passed) where
-  passes : (i : ℕ) → i < I.n → check_reception I.at i ≡ Passed
+module _ (I : Inputs) (e : check_inputs I ≡ passed) where
+  passes : (i : ℕ) → i < I.n → check_reception I.at i ≡ passed
   passes i h = first_of (check_reception I.at) I.n i (passed-receptions I e) h
 
   next-above : (i : ℕ) → suc i < I.n → before (I.at i).id (I.at (suc i)).id ≡ true
@@ -146,7 +145,7 @@ module _ (n : ℕ) (from : ℕ → Reception) (g : Given) (b alt ref : List ℕ)
   abbrev I : Inputs
   I = inputs_of true n from g b alt ref
 
-  module _ (e : check_inputs I ≡ Passed) where
+  module _ (e : check_inputs I ≡ passed) where
     small : n ≤ 32
     small = few I e
 
@@ -157,7 +156,7 @@ module _ (n : ℕ) (from : ℕ → Reception) (g : Given) (b alt ref : List ℕ)
         rw (fill-at (wholes 96) (λ k. get_or (from (k / 3)).site_mm (k % 3) (pos 0)) (3 * n) k (pos 0) h (rw length-replicate (omega arith)))
         (coordinate-good from (k / 3) (passes I e (k / 3) (omega arith)) (k % 3) (omega arith))
 
-    pub clock-whole : (Option.get_or I.clock [] ≡ b) × (length b ≡ 8 * (n * n)) × (first_to (check_row b n) n ≡ Passed)
+    pub clock-whole : (Option.get_or I.clock [] ≡ b) × (length b ≡ 8 * (n * n)) × (first_to (check_row b n) n ≡ passed)
     clock-whole = clock-of g.clock b n (passed-clock I e) (is-covered I e)
 
     clock-good : (i j : ℕ) → i ≤ j → j < n → good_entry i j (at (covariance_of (Option.get_or I.clock []) n) n i j) ≡ true
@@ -239,7 +238,7 @@ made n f site clock altitude reference shown =
     }
 
 module _ (f : Fields) (n : ℕ) (from : ℕ → Reception) (filled : f ≡ fields_of from n) (g : Given) (b alt ref : List ℕ)
-    (e : check_inputs (inputs_of true n from g b alt ref) ≡ Passed) where
+    (e : check_inputs (inputs_of true n from g b alt ref) ≡ passed) where
   abbrev J : Inputs
   J = inputs_of true n from g b alt ref
 

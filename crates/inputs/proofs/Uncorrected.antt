@@ -16,9 +16,7 @@ use Rattle.words.specs.Words.{u32_at, u64_at, i32_at, f64_at}
 use Rattle.words.proofs.Halves.{read-parts}
 use Rattle.problem.specs.declared.Altitude.{Altitude}
 use Rattle.inputs.specs.declared.Fault.TheVariants.{TornInput, TooMany, BadField}
-use Rattle.inputs.specs.declared.Check.{Check}
-use Rattle.inputs.specs.declared.Check.TheVariants.{Passed}
-use Rattle.inputs.specs.Faults.{or_else, unless, first_to}
+use Rattle.inputs.specs.Faults.{Check, passed, or_else, unless, first_to}
 use Rattle.inputs.specs.Domain.{good_metres, good_altitude}
 use Rattle.inputs.specs.Inputs.{Inputs, untorn, check_reception, check_clock, check_altitude, check_covered, check_inputs, kind_at, correction_at}
 use Rattle.inputs.specs.Inputs.{metres_at, corrected, altitude_of, shown_of, problem_of}
@@ -111,7 +109,7 @@ one-or-two k g e = go (eqb k 1) (eqb k 2) (eqb-true k 1) (eqb-true k 2) (both_of
     go false true p q t = omega (arith, q refl)
     go false false p q t = absurd (let z : ◌≡◌ {A = ℕ} 0 1 = cc in omega arith)
 
-all-uncorrected : (alt : Option (List ℕ)) → old_check alt ≡ Passed → Uncorrected alt
+all-uncorrected : (alt : Option (List ℕ)) → old_check alt ≡ passed → Uncorrected alt
 all-uncorrected none e = tt
 all-uncorrected (some a) e = no-correction a (one-or-two (u64_at a 0) (good_metres (f64_at a 8))
     (good_of (old_good (u64_at a 0) (f64_at a 8)) (BadField 200) e))

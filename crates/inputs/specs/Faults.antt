@@ -1,11 +1,9 @@
 -- What the inputs are turned away for. Document 01, 'When there is no fix': number and detail of each, and checks in
 -- order. Definitions only.
-use Rattle.std.specs.Prelude.{Bool, cond, ℕ, zero, suc}
+use Rattle.std.specs.Prelude.{Bool, cond, ℕ, zero, suc, Result, Ok, Err, ⊤}
 use Rattle.refusals.specs.Refusals as refusals
 use Rattle.inputs.specs.declared.Fault.{Fault}
 use Rattle.inputs.specs.declared.Fault.TheVariants.{TornInput, TooMany, Disorder, BadField, ClockSize, Uncovered}
-use Rattle.inputs.specs.declared.Check.{Check}
-use Rattle.inputs.specs.declared.Check.TheVariants.{Passed, Refused}
 
 -- the column 'No.'
 abbrev pub number_of : Fault → ℕ
@@ -25,18 +23,22 @@ detail_of (BadField place) = place
 detail_of ClockSize = 0
 detail_of TornInput = 0
 
+-- passed, or the fault for which the inputs are turned away
+abbrev pub Check : Type 0
+Check = Result ⊤ Fault
+
 abbrev pub passed : Check
-passed = Passed
+passed = Ok tt
 
 -- the first of two checks that refuses
 abbrev pub or_else : Check → Check → Check
-or_else Passed later = later
-or_else (Refused fault) later = Refused fault
+or_else (Ok done) later = later
+or_else (Err fault) later = Err fault
 
 abbrev pub unless : Bool → Fault → Check
-unless good fault = cond good Passed (Refused fault)
+unless good fault = cond good passed (Err fault)
 
 -- the first that refuses of the checks 0 to k - 1
 unfoldable pub first_to : (ℕ → Check) → ℕ → Check
-first_to check zero = Passed
+first_to check zero = passed
 first_to check (suc k) = or_else (first_to check k) (check k)

@@ -1,6 +1,7 @@
 -- The four inputs of a solve: the refusal that they get, and the problem that they hold where they get none.
 -- Definitions only.
-use Rattle.std.specs.Prelude.{Bool, true, cond, ◌&&◌, List, [], ℕ, zero, suc, ◌+◌, ◌*◌, ◌-◌, ◌/◌, ◌%◌, leb, eqb, ℤ, pos, length, Float}
+use Rattle.std.specs.Prelude.{Bool, true, cond, ◌&&◌, List, [], ℕ, zero, suc, ◌+◌, ◌*◌, ◌-◌, ◌/◌, ◌%◌, leb, eqb, ℤ, pos}
+use Rattle.std.specs.Prelude.{length, Float, Err}
 use Rattle.std.proofs.Math.Option.{Option, none, some, get_or}
 use Rattle.std.specs.Float.{binary64}
 use Rattle.std.specs.Float.Ieee.{of_int}
@@ -16,10 +17,8 @@ use Rattle.receptions.specs.declared.Reception.{Reception}
 use Rattle.receptions.specs.Identities.{ascends}
 use Rattle.receptions.specs.Receptions.{fill_to, floats, fields_of}
 use Rattle.inputs.specs.declared.Fault.TheVariants.{TornInput, TooMany, Disorder, BadField, ClockSize, Uncovered}
-use Rattle.inputs.specs.declared.Check.{Check}
-use Rattle.inputs.specs.declared.Check.TheVariants.{Passed, Refused}
 use Rattle.inputs.specs.declared.Given.{Given}
-use Rattle.inputs.specs.Faults.{or_else, unless, first_to}
+use Rattle.inputs.specs.Faults.{Check, passed, or_else, unless, first_to}
 use Rattle.inputs.specs.Domain.{is_zero, good_reception, good_entry, good_altitude}
 
 -- the receptions (whether they came whole, how many, and each), and the bytes of clock.bin, altitude.bin and
@@ -78,7 +77,7 @@ check_row clock n i = unless (good_row_to clock n i (n - i)) (BadField (100 + i)
 
 -- 13: "`clock.bin` present, not 8n² bytes"; then its entries
 abbrev pub check_clock : Option (List ℕ) → ℕ → Check
-check_clock none n = Passed
+check_clock none n = passed
 check_clock (some clock) n = or_else (unless (eqb (length clock) (8 * (n * n))) ClockSize) (first_to (check_row clock n) n)
 
 -- "`altitude.bin`: kind byte, seven zero bytes, metres f64". Document 02, Item 8: "Bytes 4 to 7 of `altitude.bin`
@@ -94,14 +93,14 @@ metres_at altitude = f64_at altitude 8
 
 -- "a value outside its rule is bad field 200"
 abbrev pub check_altitude : Option (List ℕ) → Check
-check_altitude none = Passed
+check_altitude none = passed
 check_altitude (some altitude) =
     unless (good_altitude (kind_at altitude) (correction_at altitude) (metres_at altitude)) (BadField 200)
 
 -- 7: "no clock covariance"
 abbrev pub check_covered : Option (List ℕ) → Check
-check_covered none = Refused Uncovered
-check_covered (some clock) = Passed
+check_covered none = Err Uncovered
+check_covered (some clock) = passed
 
 -- "Order: 14, 15, 10; receptions one by one, 12 before 11; 13; clock entries by rows; altitude; then the Rust's order,
 -- where 7 comes first." The output's 14 is the caller's.

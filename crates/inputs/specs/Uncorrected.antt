@@ -9,9 +9,7 @@ use Rattle.problem.specs.declared.Altitude.{Altitude}
 use Rattle.problem.specs.declared.Altitude.TheVariants.{None, Barometric, Gnss}
 use Rattle.problem.specs.declared.Problem.{Problem}
 use Rattle.inputs.specs.declared.Fault.TheVariants.{TornInput, TooMany, BadField}
-use Rattle.inputs.specs.declared.Check.{Check}
-use Rattle.inputs.specs.declared.Check.TheVariants.{Passed}
-use Rattle.inputs.specs.Faults.{or_else, unless, first_to}
+use Rattle.inputs.specs.Faults.{Check, passed, or_else, unless, first_to}
 use Rattle.inputs.specs.Domain.{good_metres}
 use Rattle.inputs.specs.Inputs.{Inputs, untorn, check_reception, check_clock, check_covered, check_inputs}
 use Rattle.inputs.specs.Inputs.{correction_at, problem_of}
@@ -24,7 +22,7 @@ old_good kind metres = (eqb kind 1 || eqb kind 2) && good_metres metres
 
 -- "`altitude.bin`: kind byte, seven zero bytes, metres f64". Kind and zero bytes are one u64, which is the kind.
 abbrev pub old_check : Option (List ℕ) → Check
-old_check none = Passed
+old_check none = passed
 old_check (some altitude) = unless (old_good (u64_at altitude 0) (f64_at altitude 8)) (BadField 200)
 
 -- "Altitude goes in as given, for both kinds"
@@ -69,4 +67,4 @@ pub record OldFormStays : Type 0 where
   pub check : (I : Inputs) → Uncorrected I.altitude → check_inputs I ≡ old_check_inputs I
   pub problem : (I : Inputs) → Uncorrected I.altitude → problem_of I ≡ old_problem I
   -- and whatever passed by document 01 has one
-  pub all : (altitude : Option (List ℕ)) → old_check altitude ≡ Passed → Uncorrected altitude
+  pub all : (altitude : Option (List ℕ)) → old_check altitude ≡ passed → Uncorrected altitude

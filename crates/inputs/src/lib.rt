@@ -4,7 +4,7 @@
 mod domain;
 mod files;
 
-ghost use Rattle.std.specs.Prelude.{◌≡◌, true, ℕ, ◌+◌, ◌*◌, ◌-◌, ◌/◌, ◌%◌, ◌<◌, ◌≤◌, length, set};
+ghost use Rattle.std.specs.Prelude.{◌≡◌, true, List, ℕ, ◌+◌, ◌*◌, ◌-◌, ◌/◌, ◌%◌, ◌<◌, ◌≤◌, length, set};
 ghost use Rattle.dense.specs.Entries.{nth};
 ghost use Rattle.geo.specs.Geo.{from_mm};
 ghost use Rattle.receptions.specs.declared.Reception as reception;
@@ -18,11 +18,12 @@ ghost use Rattle.inputs.specs.Held.{Passing};
 
 use problem::{Altitude, Problem};
 use receptions::Fields;
+use refusals::Refusal;
 
 // What is wrong with the inputs. A bad field's number is the place of its reception, 100 and the
 // row of its clock entry, or 200 for the altitude; a disorder's is the place of the reception whose
 // identity is not above the one before.
-#[derive(Clone, Copy)]
+#[derive(Clone, Copy, Debug, PartialEq, Eq)]
 pub enum Fault {
     TornInput,
     TooMany,
@@ -30,12 +31,6 @@ pub enum Fault {
     BadField(u32),
     ClockSize,
     Uncovered,
-}
-
-#[derive(Clone, Copy)]
-pub enum Check {
-    Passed,
-    Refused(Fault),
 }
 
 // Which of the inputs that may be absent are there. Absent receptions are empty ones.
@@ -46,51 +41,39 @@ pub struct Given {
     pub reference: bool,
 }
 
-// Document 01's number of a refusal.
-pub fn number_of(fault: Fault) -> u32
-    ensures { result ≡ faults.number_of fault }
-{
-    match fault {
-        Fault::TornInput => refusals::TORN_INPUT,
-        Fault::TooMany => refusals::TOO_MANY,
-        Fault::Disorder(i) => refusals::DISORDER,
-        Fault::BadField(place) => refusals::BAD_FIELD,
-        Fault::ClockSize => refusals::CLOCK_SIZE,
-        Fault::Uncovered => refusals::UNCOVERED,
+impl Fault {
+    // Document 01's number of the refusal.
+    pub fn number(self) -> u32
+        ensures { result ≡ faults.number_of self }
+    {
+        let why = match self {
+            Fault::TornInput => Refusal::TornInput,
+            Fault::TooMany => Refusal::TooMany,
+            Fault::Disorder(_) => Refusal::Disorder,
+            Fault::BadField(_) => Refusal::BadField,
+            Fault::ClockSize => Refusal::ClockSize,
+            Fault::Uncovered => Refusal::Uncovered,
+        };
+        why.number()
+    }
+
+    // Document 01's detail of the refusal.
+    pub fn detail(self) -> u32
+        ensures { result ≡ faults.detail_of self }
+    {
+        match self {
+            Fault::Disorder(i) => i,
+            Fault::BadField(place) => place,
+            Fault::TornInput | Fault::TooMany | Fault::ClockSize | Fault::Uncovered => 0,
+        }
     }
 }
 
-// Document 01's detail of a refusal.
-pub fn detail_of(fault: Fault) -> u32
-    ensures { result ≡ faults.detail_of fault }
-{
-    match fault {
-        Fault::TornInput => 0,
-        Fault::TooMany => 0,
-        Fault::Disorder(i) => i,
-        Fault::BadField(place) => place,
-        Fault::ClockSize => 0,
-        Fault::Uncovered => 0,
-    }
-}
-
-// The first of two checks that refuses.
-fn or_else(first: Check, later: Check) -> Check
-    ensures { result ≡ faults.or_else first later }
-{
-    match first {
-        Check::Refused(fault) => Check::Refused(fault),
-        Check::Passed => later,
-    }
-}
-
-fn unless(good: bool, fault: Fault) -> Check
+// Nothing, or the fault unless the inputs are good.
+fn unless(good: bool, fault: Fault) -> Result<(), Fault>
     ensures { result ≡ faults.unless good fault }
 {
-    if good {
-        return Check::Passed;
-    }
-    Check::Refused(fault)
+    if good { Ok(()) } else { Err(fault) }
 }
 
 // The three coordinates of site i.
@@ -103,29 +86,27 @@ fn site_in(mm: &[i64; 96], i: usize) -> [i64; 3]
 }
 
 // Reception i, whose fields are in the domain or not, and whose identity is above the one before or not.
-fn check_reception(good: bool, above: bool, i: usize) -> Check
+fn check_reception(good: bool, above: bool, i: usize) -> Result<(), Fault>
     requires { i < 32 }
     ensures { result ≡ faults.or_else (faults.unless good (BadField i)) (faults.unless above (Disorder i)) }
 {
     let place = i as u32;
-    let field = unless(good, Fault::BadField(place));
-    let order = unless(above, Fault::Disorder(place));
-    or_else(field, order)
+    unless(good, Fault::BadField(place))?;
+    unless(above, Fault::Disorder(place))
 }
 
-fn check_receptions(f: Fields, n: usize) -> Check
+fn check_receptions(f: Fields, n: usize) -> Result<(), Fault>
     requires { n ≤ 32 }
     ensures { (at : ℕ → reception.Reception) → f ≡ fields_of at n
         → result ≡ faults.first_to (inputs.check_reception at) n }
 {
-    let mut found = Check::Passed;
     for i in 0..n {
         let site = site_in(&f.site_mm, i);
         let good = domain::good_reception(f.time[i], site, f.z[i], f.noise_m2[i], f.filler[i]);
         let above = sets::has(f.ascending, i);
-        found = or_else(found, check_reception(good, above, i));
+        check_reception(good, above, i)?;
     }
-    found
+    Ok(())
 }
 
 // Whether the entries of row i on and right of the diagonal are in the domain.
@@ -133,51 +114,48 @@ fn good_row(clock: &[u8], n: usize, i: usize) -> bool
     requires { (n ≤ 32) × (i < n) × (length clock.now ≡ 8 * (n * n)) }
     ensures { result ≡ inputs.good_row_to clock.now n i (n - i) }
 {
-    let mut good = true;
     for j in i..n {
-        let entry = files::entry_at(clock, n, i, j);
-        good = domain::both(good, domain::good_entry(i, j, entry));
+        if !domain::good_entry(i, j, files::entry_at(clock, n, i, j)) {
+            return false;
+        }
     }
-    good
+    true
 }
 
-fn check_row(clock: &[u8], n: usize, i: usize) -> Check
+fn check_row(clock: &[u8], n: usize, i: usize) -> Result<(), Fault>
     requires { (n ≤ 32) × (i < n) × (length clock.now ≡ 8 * (n * n)) }
     ensures { result ≡ inputs.check_row clock.now n i }
 {
     unless(good_row(clock, n, i), Fault::BadField(100 + i as u32))
 }
 
-fn check_rows(clock: &[u8], n: usize) -> Check
+fn check_rows(clock: &[u8], n: usize) -> Result<(), Fault>
     requires { (n ≤ 32) × (length clock.now ≡ 8 * (n * n)) }
     ensures { result ≡ faults.first_to (inputs.check_row clock.now n) n }
 {
-    let mut found = Check::Passed;
     for i in 0..n {
-        found = or_else(found, check_row(clock, n, i));
+        check_row(clock, n, i)?;
     }
-    found
+    Ok(())
 }
 
-fn check_clock(there: bool, clock: &[u8], n: usize) -> Check
+fn check_clock(there: bool, clock: &[u8], n: usize) -> Result<(), Fault>
     requires { n ≤ 32 }
     ensures { result ≡ inputs.check_clock (inputs.if_there there clock.now) n }
 {
     if !there {
-        return Check::Passed;
+        return Ok(());
     }
-    if clock.len() != 8 * (n * n) {
-        return Check::Refused(Fault::ClockSize);
-    }
+    unless(clock.len() == 8 * (n * n), Fault::ClockSize)?;
     check_rows(clock, n)
 }
 
-fn check_altitude(there: bool, altitude: &[u8]) -> Check
+fn check_altitude(there: bool, altitude: &[u8]) -> Result<(), Fault>
     requires { inputs.sized 16 (inputs.if_there there altitude.now) ≡ true }
     ensures { result ≡ inputs.check_altitude (inputs.if_there there altitude.now) }
 {
     if !there {
-        return Check::Passed;
+        return Ok(());
     }
     let kind = files::kind_at(altitude);
     let correction = files::correction_at(altitude);
@@ -189,10 +167,18 @@ fn check_altitude(there: bool, altitude: &[u8]) -> Check
 fn sized(there: bool, bytes: &[u8], size: usize) -> bool
     ensures { result ≡ inputs.sized size (inputs.if_there there bytes.now) }
 {
-    if there {
-        return bytes.len() == size;
-    }
-    true
+    !there || bytes.len() == size
+}
+
+// Whether every input came whole: the receptions, and those of the others that are there.
+#[tactic(auto, unfolding(crate::specs::Inputs::untorn))]
+fn untorn(whole: bool, g: Given, altitude: &[u8], reference: &[u8]) -> bool
+    ensures { (n : ℕ) (at : ℕ → reception.Reception) (clock : List ℕ) → result
+        ≡ inputs.untorn (inputs.inputs_of whole n at g clock altitude.now reference.now) }
+{
+    whole
+        && sized(g.altitude, altitude, files::ALTITUDE)
+        && sized(g.reference, reference, files::REFERENCE)
 }
 
 // What document 01 turns the inputs away for, in its order. Its 14 comes before, with the output.
@@ -205,28 +191,17 @@ pub fn check_inputs(
     clock: &[u8],
     altitude: &[u8],
     reference: &[u8],
-) -> Check
+) -> Result<(), Fault>
     ensures { (at : ℕ → reception.Reception) → Holds f n at → result
         ≡ inputs.check_inputs (inputs.inputs_of whole n at g
         clock.now altitude.now reference.now) }
 {
-    if !whole {
-        return Check::Refused(Fault::TornInput);
-    }
-    if !sized(g.altitude, altitude, files::ALTITUDE) {
-        return Check::Refused(Fault::TornInput);
-    }
-    if !sized(g.reference, reference, files::REFERENCE) {
-        return Check::Refused(Fault::TornInput);
-    }
-    if 32 < n {
-        return Check::Refused(Fault::TooMany);
-    }
-    let first = check_receptions(f, n);
-    let second = check_clock(g.clock, clock, n);
-    let third = check_altitude(g.altitude, altitude);
-    let last = unless(g.clock, Fault::Uncovered);
-    or_else(first, or_else(second, or_else(third, last)))
+    unless(untorn(whole, g, altitude, reference), Fault::TornInput)?;
+    unless(n <= 32, Fault::TooMany)?;
+    check_receptions(f, n)?;
+    check_clock(g.clock, clock, n)?;
+    check_altitude(g.altitude, altitude)?;
+    unless(g.clock, Fault::Uncovered)
 }
 
 fn put_metres(out: &mut [f64; 96], i: usize, site: [f64; 3])

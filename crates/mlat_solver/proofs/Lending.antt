@@ -1,15 +1,17 @@
 -- The lent memory after each end of a call on records. Assumes nothing.
 use Prim.Native.Nat.{ℕ, ◌*◌, ◌<◌, ◌≤◌}
-use mathlib.Core.Path.{◌≡◌, refl, sym, ap, ◌∙◌}
+use mathlib.Core.Path.{◌≡◌, refl, sym, ◌∙◌}
 use mathlib.Core.Bool.{Bool, true, false, cond}
 use mathlib.Core.List.{List}
-use lib.Dec.{eqb, ltb}
+use lib.Dec.{ltb}
 use lib.IntN.{ℤ}
 use lib.ListN.{length}
 use lib.Ieee.{Float}
 use borrow.Author.Tests.{eq-eqb, ne_eqb, lt-ltb, le-ltb}
+use Rattle.std.specs.Prelude.{Result, Ok, Err}
+use Rattle.refusals.specs.declared.Refusal.{Refusal}
+use Rattle.refusals.specs.Refusals.{number_of, answer_of}
 use Rattle.reader.specs.declared.content.Content.{Content}
-use Rattle.reader.specs.declared.content.Reading.{Reading}
 use Rattle.reader.specs.Read.{place_refusal, write_answer, write_output}
 use Rattle.mlat_solver.specs.Records as held
 
@@ -24,22 +26,20 @@ module _ (size place r : ℕ) (told : r ≡ place_refusal size place) where
   pub placed : (found : ℕ) → r ≡ 0 → (0 ≡ place_refusal size place) × (176 * place ≡ held.placed_at size place found)
   placed found e = (sym e ∙ told, rw (eq-eqb (place_refusal size place) 0 (sym told ∙ e)))
 
--- a reading r that the call got, and what it is
-module _ (r R : Reading) (told : r ≡ R) where
+-- what the call read
+module _ (read : Result Content Refusal) (words : List ℕ) (numbers : List Float) (time : ℤ) where
   pub turned-away
-      : (words : List ℕ) (numbers : List Float) (time : ℤ) → (r.refusal ≡ 0 → ⊥)
-      → (r.refusal ≡ R.refusal) × ((words ≡ held.words_after R words) × ((numbers ≡ held.numbers_after R numbers) × (time ≡ held.time_after R time)))
-  turned-away words numbers time n =
-      let e : eqb R.refusal 0 ≡ false = ne_eqb R.refusal 0 (λ z. n (rw told z)) in
-      (rw told, (rw e, (rw e, rw e)))
+      : (why : Refusal) → Err why ≡ read
+      → (number_of why ≡ answer_of read)
+      × ((words ≡ held.words_after read words) × ((numbers ≡ held.numbers_after read numbers) × (time ≡ held.time_after read time)))
+  turned-away why e = rw (← e) (refl, (refl, (refl, refl)))
 
   pub taken-apart
-      : (words : List ℕ) (numbers : List Float) (time : ℤ) {words' : List ℕ} {numbers' : List Float} {time' : ℤ} → r.refusal ≡ 0
-      → words' ≡ held.words_of r.content → numbers' ≡ held.numbers_of r.content → time' ≡ r.content.fix.transmit_ps
-      → (0 ≡ R.refusal) × ((words' ≡ held.words_after R words) × ((numbers' ≡ held.numbers_after R numbers) × (time' ≡ held.time_after R time)))
-  taken-apart words numbers time z w x t =
-      let e : eqb R.refusal 0 ≡ true = eq-eqb R.refusal 0 (rw (← told) z) in
-      (sym z ∙ ap (λ (q : Reading). q.refusal) told, (rw (e, ← told) w, (rw (e, ← told) x, rw (e, ← told) t)))
+      : (v : Content) {words' : List ℕ} {numbers' : List Float} {time' : ℤ} → Ok v ≡ read
+      → words' ≡ held.words_of v → numbers' ≡ held.numbers_of v → time' ≡ v.fix.transmit_ps
+      → (0 ≡ answer_of read)
+      × ((words' ≡ held.words_after read words) × ((numbers' ≡ held.numbers_after read numbers) × (time' ≡ held.time_after read time)))
+  taken-apart v e w x t = rw (← e) (refl, (w, (x, t)))
 
 module _ (words : List ℕ) (numbers : List Float) (time : ℤ) (out : List ℕ) where
   pub short : length out < 176 → (14 ≡ held.record_answer words numbers time out) × (out ≡ held.record_output words numbers time out)

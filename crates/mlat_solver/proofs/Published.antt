@@ -1,6 +1,6 @@
 -- Whatever the solve publishes, everything downstream takes: entry's `reply-publishes` says what the record of a fix shows, and so each rule of the
 -- reader and each limit of the wire and of the items is met. Assumes nothing.
-use Prim.Native.Nat.{ℕ, zero, suc, ◌+◌, ◌*◌, ◌<◌, ◌≤◌}
+use Prim.Native.Nat.{ℕ, zero, suc, ◌+◌, ◌*◌, ◌≤◌}
 use mathlib.Core.Path.{◌≡◌, refl, sym, ap, subst, ◌∙◌}
 use mathlib.Core.Logic.{inl, inr}
 use mathlib.Core.List.{List}
@@ -20,18 +20,17 @@ use Rattle.binary64.specs.Within.{Within}
 use Rattle.geo.specs.declared.Geodetic.{Geodetic}
 use Rattle.limits.specs.Heights.{min_height_m, max_height_m}
 use Rattle.words.specs.Words.{f64_at}
-use Rattle.reader.specs.declared.content.Content.{Content}
-use Rattle.reader.specs.declared.content.Reading.{Reading}
-use Rattle.reader.specs.Rules.{answer_at, Finite, Rules}
-use Rattle.reader.specs.Read.{read_of, content_at, fix_at}
+use Rattle.std.specs.Prelude.{Result, Ok}
+use Rattle.refusals.specs.declared.Refusal.{Refusal}
+use Rattle.refusals.specs.Refusals.{answer_of}
+use Rattle.reader.specs.Rules.{answer_at, Finite}
+use Rattle.reader.specs.Read.{content_at, fix_at}
 use Rattle.reader.specs.Meaning.{Bytes}
 use Rattle.reader.proofs.Clause.{Clause}
 use Rattle.reader.proofs.Fixed.{answer-read}
 use Rattle.reader.proofs.Meaning.{takes-apart-exactly}
 use Rattle.reader.proofs.Value.{fix-bytes, refusal-bytes}
 use Rattle.wire.specs.declared.Wire.{Wire}
-use Rattle.wire.specs.declared.Written.{Written}
-use Rattle.wire.specs.declared.Written.TheVariants as written
 use Rattle.wire.specs.Held.{AtMost}
 use Rattle.wire.specs.Nearest.{nearest, half_up}
 use Rattle.wire.specs.Wire.{per_degree, per_metre, in_units, to_wire}
@@ -43,13 +42,12 @@ use Rattle.asterix.specs.Multiples.{level}
 use Rattle.asterix.specs.Meaning.{IsExported}
 use Rattle.asterix.specs.Items.{to_answer}
 use Rattle.asterix.proofs.Meaning.{exports-exactly}
-use Rattle.inputs.specs.Inputs.{Inputs}
-use Rattle.entry.specs.Reply.{reply, answer}
+use Rattle.entry.specs.Reply.{reply}
 use Rattle.entry.proofs.Records as records
 use Rattle.entry.proofs.Records.{reply-written}
 use Rattle.entry.proofs.Published.{Publishes, reply-publishes}
 use Rattle.mlat_solver.specs.Solved.{solved_record, FiniteFloats, Moves}
-use Rattle.mlat_solver.specs.Positions.{wire_of, written_answer, numbers_after}
+use Rattle.mlat_solver.specs.Positions.{wire_of, numbers_after}
 use Rattle.mlat_solver.specs.Published.{OfEveryFix, FixesAreFinite, FixesLieOnEarth, ClaimsArePositive, Chi2IsNotNegative, FiniteChi2}
 use Rattle.mlat_solver.specs.Published.{ClaimsAreDefinite, ReadExactlyWhere, Taken, FixesAreTaken}
 use Rattle.mlat_solver.proofs.Solved.{told-refuses, answered, is-record, solved-moves}
@@ -106,7 +104,7 @@ pub read-exactly-where : ReadExactlyWhere
 read-exactly-where I out h e =
     let s = solved_record I out in (
       λ r. (((takes-apart-exactly s (is-bytes I out h e)).0 r).1.fix (is-fix I out h e)).claims 9 (omega arith),
-      λ c. ap (λ (r : Reading). r.refusal) (moved I out h e c).read,
+      λ c. ap answer_of (moved I out h e c).read,
     )
 
 -- ---- the wire and the items
@@ -146,20 +144,21 @@ module _ (s : List ℕ) (p : Publishes s) (z : answer_at s ≡ 0) (m : Moves s) 
   unfolding content_at fix_at
   content = rw (eq-eqb (answer_at s) 0 z) (refl, refl)
 
-  position : (read_of s).content.fix.position ≡ place
-  position = ap (λ (r : Reading). r.content.fix.position) m.read ∙ content.1
+  position : (content_at s).fix.position ≡ place
+  position = content.1
 
   is-written : IsWritten s w
   is-written = record {
-    taken = ap (λ (r : Reading). r.refusal) m.read;
-    fix = ap (λ (r : Reading). r.content.answer) m.read ∙ content.0;
+    content = content_at s;
+    taken = m.read;
+    fix = content.0;
     limited = subst WithinLimits (sym position) (record { lat = p.lat; lon = p.lon; height = (p.above, p.below) });
     lat = subst (λ (g : Geodetic). IsNearest per_degree g.lat_deg w.lat) (sym position) (nearest-of per_degree (f64_at s 48));
     lon = subst (λ (g : Geodetic). IsNearest per_degree g.lon_deg w.lon) (sym position) (nearest-of per_degree (f64_at s 56));
     height = subst (λ (g : Geodetic). IsNearest per_metre g.height_m w.height) (sym position) (nearest-of per_metre (f64_at s 64));
   }
 
-  whole : to_wire s ≡ written.Whole w
+  whole : to_wire s ≡ Ok w
   whole = (writes-exactly s w).1 is-written
 
   exported : (items : List ℕ) → length items ≡ 10 → IsExported w (length items)
@@ -174,11 +173,12 @@ module _ (s : List ℕ) (p : Publishes s) (z : answer_at s ≡ 0) (m : Moves s) 
   taken-moves = m
 
   taken-wire : Clause (λ (t : Taken s). t.wire)
-  taken-wire = ap written_answer whole
+  taken-wire = ap answer_of whole
 
   taken-asterix : Clause (λ (t : Taken s). t.asterix)
   taken-asterix found items l =
-      subst (λ (o : Written). to_answer (wire_of (numbers_after o found)) items ≡ 0) (sym whole) ((exports-exactly w items).0 (exported items l)).0
+      subst (λ (o : Result Wire Refusal). to_answer (wire_of (numbers_after o found)) items ≡ 0) (sym whole)
+      ((exports-exactly w items).0 (exported items l)).0
 
   taken : Taken s
   taken = record { moves = taken-moves; wire = taken-wire; asterix = taken-asterix }

@@ -17,15 +17,16 @@ use Rattle.problem.specs.declared.Altitude.{Altitude}
 use Rattle.problem.specs.declared.Altitude.TheVariants.{None, Barometric, Gnss}
 use Rattle.record.specs.Record.{kind, metres}
 use Rattle.reader.specs.declared.content.Content.{Content}
-use Rattle.reader.specs.declared.content.Reading.{Reading}
 use Rattle.reader.specs.Rules.{answer_at, detail_at, n_at}
 use Rattle.reader.specs.Read.{fix_at, fixed, refused, read_of, content_at, bytes_of, readable, write_answer, write_output}
-use Rattle.reader.specs.Meaning.{Bytes, taken_apart, Held, HeldThree}
+use Rattle.reader.specs.Meaning.{Bytes, Held, HeldThree}
 use Rattle.reader.proofs.Tests.{all-3}
 use Rattle.reader.proofs.Round.{kind-back, metres-back}
 use Rattle.reader.proofs.Fixed.{altitude-back}
 use Rattle.reader.proofs.Value.{bytes-sized, bytes-bytes}
-use Rattle.reader.proofs.Meaning.{accepted, taken-apart, writes-what-was-read, reads-what-was-written}
+use Rattle.std.specs.Prelude.{Ok}
+use Rattle.reader.proofs.Reading.{what-is-read}
+use Rattle.reader.proofs.Meaning.{writes-what-was-read, reads-what-was-written}
 use Rattle.mlat_solver.specs.Records.{version_of, words_of, numbers_of, word, fix_of, content_of, whole, record_answer, record_output}
 use Rattle.mlat_solver.specs.Records.{Lends, ReadFrom, RecordsWrittenAgain, RecordsReadAgain, RecordsRefused}
 
@@ -62,12 +63,11 @@ content-again s = go (eqb (answer_at s) 0) refl
 -- the words and numbers that were read are the content's
 module _ (s words : List ℕ) (numbers : List Float) (time : ℤ) (r : ReadFrom s words numbers time) where
   abbrev read : Content
-  read = (read_of s).content
+  read = r.content
 
   read_again : content_of (words_of read) (numbers_of read) read.fix.transmit_ps ≡ read
   read_again =
-      let t = accepted s r.answered in
-      let e : read ≡ content_at s = ap (λ (q : Reading). q.content) (taken-apart s t.0 t.1) in
+      let e : read ≡ content_at s = what-is-read s read r.answered in
       subst (λ (c : Content). content_of (words_of c) (numbers_of c) c.fix.transmit_ps ≡ c) (sym e) (content-again s)
 
   content-is : content_of words numbers time ≡ read
@@ -84,7 +84,7 @@ module _ (s words : List ℕ) (numbers : List Float) (time : ℤ) (r : ReadFrom 
 pub records-written-again : RecordsWrittenAgain
 unfolding record_answer record_output
 records-written-again s out words numbers time b r h =
-    let w = writes-what-was-read s out b r.answered h in
+    let w = writes-what-was-read s out r.content b r.answered h in
     let e = whole_is s words numbers time r in
     let c = content-is s words numbers time r in
     (rw (le-ltb (length out) 176 h, e, c) w.0, rw (e, c) w.1)
@@ -184,12 +184,13 @@ unfolding record_answer record_output content_of fix_of
 records-read-again words numbers time out l e =
     let v = content_of words numbers time in
     let t = allowed (ltb (length out) 176) (whole words numbers) (write_answer v out) e in
-    let q : read_of (take 176 (write_output v out)) ≡ taken_apart v = reads-what-was-written v out (held words numbers time l) t.1 in
+    let q : read_of (take 176 (write_output v out)) ≡ Ok v = reads-what-was-written v out (held words numbers time l) t.1 in
     rw t.0 (record {
-      answered = ap (λ (r : Reading). r.refusal) q;
-      in_words = ap (λ (r : Reading). words_of r.content) q ∙ words_back words numbers time l t.0;
-      in_numbers = ap (λ (r : Reading). numbers_of r.content) q ∙ numbers-back words numbers time l t.0;
-      in_time = ap (λ (r : Reading). r.content.fix.transmit_ps) q;
+      content = v;
+      answered = q;
+      in_words = words_back words numbers time l t.0;
+      in_numbers = numbers-back words numbers time l t.0;
+      in_time = refl;
     })
 
 -- the bytes that were written

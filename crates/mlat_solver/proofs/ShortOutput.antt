@@ -1,5 +1,5 @@
 -- Each answer is 14 where the first test finds too little room, and no later test gives 14. Assumes nothing.
-use Prim.Native.Nat.{ℕ, ◌≤◌, ◌<◌}
+use Prim.Native.Nat.{ℕ, ◌<◌}
 use mathlib.Core.Path.{◌≡◌, refl, sym, ap, ◌∙◌}
 use mathlib.Core.Bool.{Bool, true, false, cond}
 use mathlib.Core.Logic.{inl, inr}
@@ -7,15 +7,14 @@ use mathlib.Core.List.{List}
 use native.Mathlib.Omega.{arith}
 use borrow.Author.Tests.{ltb-true, lt-ltb}
 use lib.Dec.{ltb, eqb}
-use lib.IntN.{ℤ}
 use lib.ListN.{length}
-use lib.Ieee.{Float}
-use Rattle.reader.specs.declared.content.Reading.{Reading}
+use Rattle.std.specs.Prelude.{Ok, Err}
+use Rattle.refusals.specs.declared.Refusal.TheVariants.{TornFile, MalformedRecord}
+use Rattle.refusals.specs.Refusals.{answer_of}
 use Rattle.reader.specs.Tests.{meets_rules}
-use Rattle.reader.specs.Read.{content_at, turned_away, read_of, readable, write_answer, write_output}
+use Rattle.reader.specs.Read.{content_at, read_of, readable, write_answer, write_output}
 use Rattle.archive.specs.Forms.{old_form}
 use Rattle.archive.specs.Moves.{equal_mirror, old_refusal, new_refusal, to_archive_answer, to_archive_output, from_archive_answer, from_archive_output}
-use Rattle.near.specs.Near.{within_answer}
 use Rattle.near.proofs.Meaning.{within-answers, lent-as-found}
 use Rattle.inputs.specs.Inputs.{Inputs}
 use Rattle.entry.specs.declared.Reply.{Reply}
@@ -25,8 +24,7 @@ use Rattle.why.specs.declared.Verdict.{Verdict}
 use Rattle.why.specs.Why.{verdict}
 use Rattle.why.specs.Meaning.{Agrees, with_fix, with_refusal}
 use Rattle.why.proofs.Agreement.{agrees-with-solve}
-use Rattle.stream.specs.declared.Solved.{Solved}
-use Rattle.stream.specs.Frames.{asked, solved_next}
+use Rattle.stream.specs.Frames.{number_in, asked, solved_next}
 use Rattle.stream.specs.Meaning.{first_of}
 use Rattle.stream.proofs.Next.{Came, all, less, came}
 use Rattle.mlat_solver.specs.Records.{content_of, whole, record_answer, record_output}
@@ -79,34 +77,29 @@ why-needs-room I states detail =
     fourteen 640 (length states) _ (verdict I).number _ refl (λ l. verdict-other I) (λ l. (rw l, rw l))
 
 -- ---- a problem of a stream
-abbrev number_by : Solved → ℕ
-number_by r = cond r.whole r.number 16
-
-first-other : (s out : List ℕ) → Came s out → ltb (length out) 176 ≡ false → number_by (solved_next s out) ≡ 14 → ⊥
+first-other : (s out : List ℕ) → Came s out → ltb (length out) 176 ≡ false → number_in (solved_next s out) ≡ 14 → ⊥
 first-other s out (all g e) l q =
     let number : ℕ = (reply (asked (first_of s))).number in
-    reply-other (asked (first_of s)) (sym (ap (λ (b : Bool). cond b 14 number) l) ∙ sym (ap number_by e) ∙ q)
-first-other s out (less g e o) l q = let z : ◌≡◌ {A = ℕ} 16 14 = sym (ap number_by e) ∙ q in omega (arith, z)
+    reply-other (asked (first_of s)) (sym (ap (λ (b : Bool). cond b 14 number) l) ∙ sym (ap number_in e) ∙ q)
+first-other s out (less g e o) l q = let z : ◌≡◌ {A = ℕ} 16 14 = sym (ap number_in e) ∙ q in omega (arith, z)
 
 pub solve-next-needs-room : SolveNextNeedsRoom
 solve-next-needs-room s out used =
-    fourteen 176 (length out) _ (number_by (solved_next s out)) _ refl (first-other s out (came s out)) (λ l. (rw l, rw l))
+    fourteen 176 (length out) _ (number_in (solved_next s out)) _ refl (first-other s out (came s out)) (λ l. (rw l, rw l))
 
 -- ---- records
 cond-other : (b : Bool) (k m : ℕ) → (k ≡ 14 → ⊥) → (m ≡ 14 → ⊥) → cond b k m ≡ 14 → ⊥
 cond-other true k m f g = f
 cond-other false k m f g = g
 
-reading-other : (b : Bool) (x y : Reading) → (x.refusal ≡ 14 → ⊥) → (y.refusal ≡ 14 → ⊥) → (cond b x y).refusal ≡ 14 → ⊥
-reading-other true x y f g = f
-reading-other false x y f g = g
-
-read-other : (s : List ℕ) → (read_of s).refusal ≡ 14 → ⊥
+read-other : (s : List ℕ) → answer_of (read_of s) ≡ 14 → ⊥
 unfolding read_of
-read-other s =
-    reading-other (eqb (length s) 176) (cond (meets_rules s) (record { refusal = 0; content = content_at s }) (turned_away 18)) (turned_away 16)
-    (reading-other (meets_rules s) (record { refusal = 0; content = content_at s }) (turned_away 18) (λ e. omega arith) (λ e. omega arith))
-    (λ e. omega arith)
+read-other s = go (eqb (length s) 176) (meets_rules s)
+  where
+    go : (a b : Bool) → answer_of (cond a (cond b (Ok (content_at s)) (Err MalformedRecord)) (Err TornFile)) ≡ 14 → ⊥
+    go true true e = omega arith
+    go true false e = omega arith
+    go false b e = omega arith
 
 same-either-way : (b : Bool) (s : List ℕ) → cond b s s ≡ s
 same-either-way true s = refl
@@ -126,7 +119,7 @@ pub to-archive-needs-room : ToArchiveNeedsRoom
 unfolding to_archive_answer to_archive_output old_refusal
 to-archive-needs-room s out =
     fourteen 152 (length out) _ (old_refusal s) _ refl
-    (λ l. cond-other (eqb (read_of s).refusal 0) (cond (equal_mirror s) 0 20) (read_of s).refusal
+    (λ l. cond-other (eqb (answer_of (read_of s)) 0) (cond (equal_mirror s) 0 20) (answer_of (read_of s))
     (cond-other (equal_mirror s) 0 20 (λ e. omega arith) (λ e. omega arith)) (read-other s))
     (λ l. rw l)
 
@@ -134,7 +127,7 @@ pub from-archive-needs-room : FromArchiveNeedsRoom
 unfolding from_archive_answer from_archive_output new_refusal
 from-archive-needs-room a out =
     fourteen 176 (length out) _ (new_refusal a) _ refl
-    (λ l. cond-other (eqb (length a) 152) (read_of (old_form a)).refusal 16 (read-other (old_form a)) (λ e. omega arith))
+    (λ l. cond-other (eqb (length a) 152) (answer_of (read_of (old_form a))) 16 (read-other (old_form a)) (λ e. omega arith))
     (λ l. rw l)
 
 -- ---- near

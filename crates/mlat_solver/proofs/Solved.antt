@@ -14,7 +14,7 @@ use Rattle.binary64.specs.Steps.{is_finite}
 use Rattle.problem.specs.declared.Altitude.{Altitude}
 use Rattle.record.specs.declared.content.Fix.{Fix}
 use Rattle.record.specs.Record.{fix, refusal}
-use Rattle.reader.specs.declared.content.Reading.{Reading}
+use Rattle.refusals.specs.Refusals.{answer_of}
 use Rattle.reader.specs.Rules.{DetailRule, Rules}
 use Rattle.reader.specs.Meaning.{Bytes}
 use Rattle.reader.specs.Read.{read_of}
@@ -46,8 +46,8 @@ module _ (s : List ℕ) (bytes : Bytes s) (sized : length s ≡ 176) (rules : Ru
   meets-rules : Clause (λ (m : Moves s). m.rules)
   meets-rules = rules
 
-  unrefused : (read_of s).refusal ≡ 0
-  unrefused = ap (λ (r : Reading). r.refusal) is_read
+  unrefused : answer_of (read_of s) ≡ 0
+  unrefused = ap answer_of is_read
 
   is-moved : EqualMirror s → Clause (λ (m : Moves s). m.moved)
   is-moved m to h = (moved-exactly s to).1 h unrefused m

@@ -9,6 +9,7 @@ use Rattle.binary64.specs.Within.{Within}
 use Rattle.dense.specs.Factor.{found, cholesky}
 use Rattle.words.specs.Words.{f64_at}
 use Rattle.record.specs.Record.{record_bytes}
+use Rattle.refusals.specs.Refusals.{answer_of}
 use Rattle.reader.specs.Rules.{Finite}
 use Rattle.reader.specs.Read.{read_of}
 use Rattle.wire.specs.Wire.{to_wire}
@@ -16,7 +17,7 @@ use Rattle.asterix.specs.Items.{to_answer}
 use Rattle.inputs.specs.Inputs.{Inputs}
 use Rattle.entry.specs.Reply.{answer}
 use Rattle.mlat_solver.specs.Solved.{solved_record, Moves}
-use Rattle.mlat_solver.specs.Positions.{wire_of, written_answer, numbers_after}
+use Rattle.mlat_solver.specs.Positions.{wire_of, numbers_after}
 
 -- S holds of the record of every fix, for every input
 abbrev pub OfEveryFix : (List ℕ → Type 0) → Type 0
@@ -63,13 +64,13 @@ FiniteChi2 s = Finite s 152
 
 -- the reader takes the record apart exactly where its chi-square is finite
 abbrev pub ReadExactlyWhere : Type 0
-ReadExactlyWhere = OfEveryFix (λ s. ((read_of s).refusal ≡ 0) ↔ FiniteChi2 s)
+ReadExactlyWhere = OfEveryFix (λ s. (answer_of (read_of s) ≡ 0) ↔ FiniteChi2 s)
 
 -- s is read and moved; `mlat_to_wire` answers 0 to it; and to the three whole numbers that it then leaves in place of
 -- `found`, whoever lends ten bytes, `mlat_to_asterix` answers 0
 pub record Taken (s : List ℕ) : Type 0 where
   pub moves : Moves s
-  pub wire : written_answer (to_wire s) ≡ 0
+  pub wire : answer_of (to_wire s) ≡ 0
   pub asterix
       : (found : List ℤ) (items : List ℕ) → length items ≡ 10
       → to_answer (wire_of (numbers_after (to_wire s) found)) items ≡ 0

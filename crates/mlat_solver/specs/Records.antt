@@ -1,16 +1,17 @@
 -- Document 02, item 1, as C has it: what a record holds as six words, eighteen numbers and the transmit time.
 -- Definitions and statements only: proofs/Returned.antt proves each.
-use Rattle.std.specs.Prelude.{ℕ, ◌*◌, ◌^◌, ◌<◌, ◌≤◌, ◌≡◌, Bool, not, cond, ◌&&◌, ◌||◌, List, [], ◌∷◌, T, leb, ltb, eqb, ℤ, length, take, get_or, Float}
+use Rattle.std.specs.Prelude.{ℕ, ◌*◌, ◌^◌, ◌<◌, ◌≤◌, ◌≡◌, Bool, not, cond, ◌&&◌, ◌||◌, List, [], ◌∷◌, T, leb, ltb, eqb}
+use Rattle.std.specs.Prelude.{ℤ, length, take, get_or, Float, Result, Ok, Err}
 use Rattle.std.specs.Float.{binary64}
 use Rattle.std.specs.Float.Ieee.{fits, to_bits}
 use Rattle.std.specs.Int.{w64}
 use Rattle.std.proofs.Common.{SFits}
+use Rattle.refusals.specs.declared.Refusal.{Refusal}
 use Rattle.refusals.specs.Refusals.{short_output, malformed_record}
 use Rattle.dense.specs.Entries.{nth}
 use Rattle.record.specs.declared.content.Fix.{Fix}
 use Rattle.record.specs.Record.{kind, metres, stored, record_bytes}
 use Rattle.reader.specs.declared.content.Content.{Content}
-use Rattle.reader.specs.declared.content.Reading.{Reading}
 use Rattle.reader.specs.Read.{place_refusal, altitude_of, read_of, write_answer, write_output}
 use Rattle.reader.specs.Meaning.{Bytes}
 
@@ -40,14 +41,17 @@ numbers_of v =
     ∷ f.chi2 ∷ metres v.altitude ∷ []
 
 -- the lent memory after a read: a refusal leaves it as found
-abbrev pub words_after : Reading → List ℕ → List ℕ
-words_after r found = cond (eqb r.refusal 0) (words_of r.content) found
+abbrev pub words_after : Result Content Refusal → List ℕ → List ℕ
+words_after (Ok v) found = words_of v
+words_after (Err _) found = found
 
-abbrev pub numbers_after : Reading → List Float → List Float
-numbers_after r found = cond (eqb r.refusal 0) (numbers_of r.content) found
+abbrev pub numbers_after : Result Content Refusal → List Float → List Float
+numbers_after (Ok v) found = numbers_of v
+numbers_after (Err _) found = found
 
-abbrev pub time_after : Reading → ℤ → ℤ
-time_after r found = cond (eqb r.refusal 0) r.content.fix.transmit_ps found
+abbrev pub time_after : Result Content Refusal → ℤ → ℤ
+time_after (Ok v) found = v.fix.transmit_ps
+time_after (Err _) found = found
 
 -- ---- what is to be written
 
@@ -113,10 +117,11 @@ pub record Lends (words : List ℕ) (numbers : List Float) (time : ℤ) : Type 0
 
 -- these words and numbers, and this time, are what is read from s
 pub record ReadFrom (s words : List ℕ) (numbers : List Float) (time : ℤ) : Type 0 where
-  pub answered : (read_of s).refusal ≡ 0
-  pub in_words : words_of (read_of s).content ≡ words
-  pub in_numbers : numbers_of (read_of s).content ≡ numbers
-  pub in_time : (read_of s).content.fix.transmit_ps ≡ time
+  pub content : Content
+  pub answered : read_of s ≡ Ok content
+  pub in_words : words_of content ≡ words
+  pub in_numbers : numbers_of content ≡ numbers
+  pub in_time : content.fix.transmit_ps ≡ time
 
 -- "Writing a read record gives its bytes again"
 abbrev pub RecordsWrittenAgain : Type 0

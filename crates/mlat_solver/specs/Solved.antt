@@ -1,11 +1,10 @@
 -- Document 02, item 7: "Every refusal that the solve writes, and every fix of its with finite floats, can be moved, and
 -- that is to be proved". Of `mlat_solve` and `mlat_solve_receptions`, which leave what entry's `output` says.
 -- Definitions and a statement only: proofs/Solved.antt proves it.
-use Rattle.std.specs.Prelude.{ℕ, ◌+◌, ◌*◌, ◌<◌, ◌≤◌, ◌≡◌, List, length, take}
+use Rattle.std.specs.Prelude.{ℕ, ◌+◌, ◌*◌, ◌<◌, ◌≤◌, ◌≡◌, List, length, take, Ok}
 use Rattle.record.specs.Record.{stored, record_bytes}
 use Rattle.reader.specs.Rules.{Finite, Rules}
 use Rattle.reader.specs.Read.{read_of, content_at}
-use Rattle.reader.specs.Meaning.{taken_apart}
 use Rattle.archive.specs.Moves.{to_archive_answer, to_archive_output, from_archive_output}
 use Rattle.inputs.specs.Inputs.{Inputs}
 use Rattle.entry.specs.Reply.{answer, output}
@@ -23,7 +22,7 @@ pub record FiniteFloats (s : List ℕ) : Type 0 where
 -- byte for byte"
 pub record Moves (s : List ℕ) : Type 0 where
   pub rules : Rules s
-  pub read : read_of s ≡ taken_apart (content_at s)
+  pub read : read_of s ≡ Ok (content_at s)
   pub moved : (to : List ℕ) → 152 ≤ length to → to_archive_answer s to ≡ 0
   pub back :
       (to back : List ℕ) → 152 ≤ length to → record_bytes ≤ length back

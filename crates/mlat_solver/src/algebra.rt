@@ -10,7 +10,7 @@ pub fn mlat_sandwich(n: usize, a: &[f64], inner: &[f64], out: &mut [f64]) -> u32
     ensures output { out.new
         ≡ calls.sandwich_output n a.now inner.now out.old }
 {
-    matrices::sandwich(n, a, inner, out)
+    refusals::answer(matrices::sandwich(n, a, inner, out))
 }
 
 // R with L R = Q, for the factor l and the n rows q of `width` numbers. A factor's entry that equals 0 is passed over.
@@ -20,7 +20,7 @@ pub fn mlat_forward_rows(n: usize, width: usize, l: &[f64], q: &[f64], out: &mut
     ensures output { out.new
         ≡ calls.forward_rows_output n width l.now q.now out.old }
 {
-    matrices::forward_rows(n, width, l, q, out)
+    refusals::answer(matrices::forward_rows(n, width, l, q, out))
 }
 
 // The inverse of the matrix with the factor l, as L⁻ᵀ L⁻¹: symmetric to the bit.
@@ -28,7 +28,7 @@ pub fn mlat_inverse_triangular(n: usize, l: &[f64], out: &mut [f64]) -> u32
     ensures answer { result ≡ calls.inverse_triangular_answer n l.now out.old }
     ensures output { out.new ≡ calls.inverse_triangular_output n l.now out.old }
 {
-    matrices::inverse_triangular(n, l, out)
+    refusals::answer(matrices::inverse_triangular(n, l, out))
 }
 
 // The diagonal of that inverse, n numbers with the bits that `mlat_inverse_triangular` gives there.
@@ -36,7 +36,7 @@ pub fn mlat_inverse_diagonal(n: usize, l: &[f64], out: &mut [f64]) -> u32
     ensures answer { result ≡ calls.inverse_diagonal_answer n l.now out.old }
     ensures output { out.new ≡ calls.inverse_diagonal_output n l.now out.old }
 {
-    matrices::inverse_diagonal(n, l, out)
+    refusals::answer(matrices::inverse_diagonal(n, l, out))
 }
 
 // The Cholesky factor of a, of which the lower triangle is read alone; right of its diagonal are zeros. 6 where a pivot
@@ -45,5 +45,5 @@ pub fn mlat_cholesky(n: usize, a: &[f64], out: &mut [f64]) -> u32
     ensures answer { result ≡ calls.cholesky_answer n a.now out.old }
     ensures output { out.new ≡ calls.cholesky_output n a.now out.old }
 {
-    matrices::cholesky(n, a, out)
+    refusals::answer(matrices::cholesky(n, a, out))
 }

@@ -8,7 +8,7 @@ pub fn mlat_to_archive(bytes: &[u8], out: &mut [u8]) -> u32
     ensures answer { result ≡ moves.to_archive_answer bytes.now out.old }
     ensures output { out.new ≡ moves.to_archive_output bytes.now out.old }
 {
-    archive::to_archive(bytes, out)
+    refusals::answer(archive::to_archive(bytes, out))
 }
 
 // Moves a record of 152 bytes back, to the first 176 of `out`: 14 where it is shorter, then 16 where the record has
@@ -17,5 +17,5 @@ pub fn mlat_from_archive(bytes: &[u8], out: &mut [u8]) -> u32
     ensures answer { result ≡ moves.from_archive_answer bytes.now out.old }
     ensures output { out.new ≡ moves.from_archive_output bytes.now out.old }
 {
-    archive::from_archive(bytes, out)
+    refusals::answer(archive::from_archive(bytes, out))
 }

@@ -20,7 +20,13 @@ pub fn mlat_within(
     ensures count { count.new
         ≡ near.count_after file.now point.now radius places.old count.old }
 {
-    near::within(file, *point, radius, places, count)
+    match near::within(file, *point, radius, places) {
+        Ok(found) => {
+            *count = found;
+            0
+        }
+        Err(why) => why.number(),
+    }
 }
 
 // The place, from 0, of the fix of a file that is nearest to an ECEF point, the earliest of those at one distance, into
@@ -30,5 +36,11 @@ pub fn mlat_nearest(file: &[u8], point: &[f64; 3], place: &mut u64) -> u32
     ensures place { place.new
         ≡ near.place_after file.now point.now place.old }
 {
-    near::nearest(file, *point, place)
+    match near::nearest(file, *point) {
+        Ok(found) => {
+            *place = found;
+            0
+        }
+        Err(why) => why.number(),
+    }
 }

@@ -8,5 +8,5 @@ pub fn mlat_clash_patterns(receptions: u32, counts: &mut [u64; 7]) -> u32
     ensures answer { result ≡ patterns.answer receptions }
     ensures counts { counts.new ≡ patterns.counts_after receptions counts.old }
 {
-    patterns::clash_patterns(receptions, counts)
+    refusals::answer(patterns::clash_patterns(receptions, counts))
 }

@@ -1,11 +1,13 @@
 // Fix records, for callers in C: document 02, item 1.
 ghost use Rattle.std.specs.Prelude.{◌≡◌, length};
+ghost use Rattle.refusals.specs.Refusals.{answer_of};
 ghost use Rattle.reader.specs.Read.{place_refusal, read_of};
 ghost use Rattle.mlat_solver.specs.Records as held;
 
 use geo::Geodetic;
 use reader::Content;
 use record::Fix;
+use refusals::Refusal;
 
 // Where the record at a place, from 0, begins in the caller's own file. 16 where the file is not whole
 // records, then 17 where it ends before the place; then `at` stays.
@@ -13,12 +15,13 @@ pub fn mlat_record_at(file: &[u8], place: u64, at: &mut u64) -> u32
     ensures answer { result ≡ place_refusal (length file.now) place }
     ensures offset { at.new ≡ held.placed_at (length file.now) place at.old }
 {
-    let refusal = reader::place_refusal(file, place);
-    if refusal != 0 {
-        return refusal;
+    match reader::record_at(file, place) {
+        Ok(_) => {
+            *at = 176 * place;
+            0
+        }
+        Err(refusal) => refusal.number(),
     }
-    *at = 176 * place;
-    0
 }
 
 // The version that a record with this answer shows.
@@ -41,19 +44,13 @@ fn dof_of(answer: u32, detail: u32) -> u32
     0
 }
 
-fn wide(x: u8) -> u32
-    ensures { result ≡ x }
-{
-    x as u32
-}
-
 fn words_of(v: Content) -> [u32; 6]
     ensures { result ≡ held.words_of v }
 {
     let altitude = v.altitude;
     let fix = v.fix;
     let version = version_of(v.answer);
-    let kind = wide(record::kind(altitude));
+    let kind = record::kind(altitude) as u32;
     [v.answer, v.detail, v.n, fix.mask, version, kind]
 }
 
@@ -97,23 +94,22 @@ pub fn mlat_read_record(
     numbers: &mut [f64; 18],
     time: &mut i64,
 ) -> u32
-    ensures answer { result ≡ (read_of bytes.now).refusal }
+    ensures answer { result ≡ answer_of (read_of bytes.now) }
     ensures words { words.new ≡ held.words_after (read_of bytes.now) words.old }
     ensures numbers { numbers.new
         ≡ held.numbers_after (read_of bytes.now) numbers.old }
     ensures time { time.new ≡ held.time_after (read_of bytes.now) time.old }
 {
-    let reading = reader::read(bytes);
-    if reading.refusal != 0 {
-        return reading.refusal;
+    match reader::read(bytes) {
+        Ok(content) => {
+            let fix = content.fix;
+            *words = words_of(content);
+            *numbers = numbers_of(content);
+            *time = fix.transmit_ps;
+            0
+        }
+        Err(why) => why.number(),
     }
-    let content = reading.content;
-    let fix = content.fix;
-    let transmit_ps = fix.transmit_ps;
-    *words = words_of(content);
-    *numbers = numbers_of(content);
-    *time = transmit_ps;
-    0
 }
 
 fn fix_of(words: [u32; 6], numbers: [f64; 18], time: i64) -> Fix
@@ -185,10 +181,10 @@ pub fn mlat_write_record(words: &[u32; 6], numbers: &[f64; 18], time: i64, out: 
         ≡ held.record_output words.now numbers.now time out.old }
 {
     if out.len() < 176 {
-        return refusals::SHORT_OUTPUT;
+        return Refusal::ShortOutput.number();
     }
     if !whole(*words, *numbers) {
-        return refusals::MALFORMED_RECORD;
+        return Refusal::MalformedRecord.number();
     }
-    reader::write(content_of(*words, *numbers, time), out)
+    refusals::answer(reader::write(content_of(*words, *numbers, time), out))
 }

@@ -1,6 +1,7 @@
 // Positions as a display takes them, for callers in C: document 02, item 13, items I020/041 and I020/105 of
 // Eurocontrol's category 020.
 ghost use Rattle.std.specs.Prelude.{◌≡◌};
+ghost use Rattle.refusals.specs.Refusals.{answer_of};
 ghost use Rattle.asterix.specs.Items as items;
 ghost use Rattle.mlat_solver.specs.Positions.{wire_of};
 ghost use Rattle.mlat_solver.specs.Displays as held;
@@ -19,7 +20,7 @@ pub extern "C" fn mlat_to_asterix(numbers: &[i32; 3], out: &mut [u8]) -> u32
 // another length; then `multiples` stays.
 #[unsafe(no_mangle)]
 pub extern "C" fn mlat_read_asterix(bytes: &[u8], multiples: &mut [i32; 3]) -> u32
-    ensures answer { result ≡ held.read_answer (items.read_items bytes.now) }
+    ensures answer { result ≡ answer_of (items.read_items bytes.now) }
     ensures multiples { multiples.new
         ≡ held.multiples_after (items.read_items bytes.now) multiples.old }
 {

@@ -1,5 +1,6 @@
 // Positions as the wire writes them, for callers in C: document 02, item 5.
 ghost use Rattle.std.specs.Prelude.{◌≡◌};
+ghost use Rattle.refusals.specs.Refusals.{answer_of};
 ghost use Rattle.wire.specs.Wire.{to_wire, from_wire};
 ghost use Rattle.mlat_solver.specs.Positions as held;
 
@@ -8,7 +9,7 @@ ghost use Rattle.mlat_solver.specs.Positions as held;
 // the wire; then `numbers` stays.
 #[unsafe(no_mangle)]
 pub extern "C" fn mlat_to_wire(bytes: &[u8], numbers: &mut [i32; 3]) -> u32
-    ensures answer { result ≡ held.written_answer (to_wire bytes.now) }
+    ensures answer { result ≡ answer_of (to_wire bytes.now) }
     ensures numbers { numbers.new
         ≡ held.numbers_after (to_wire bytes.now) numbers.old }
 {
@@ -19,7 +20,7 @@ pub extern "C" fn mlat_to_wire(bytes: &[u8], numbers: &mut [i32; 3]) -> u32
 // limits; then `position` stays.
 #[unsafe(no_mangle)]
 pub extern "C" fn mlat_from_wire(numbers: &[i32; 3], position: &mut [f64; 3]) -> u32
-    ensures answer { result ≡ held.placed_answer (from_wire (held.wire_of numbers.now)) }
+    ensures answer { result ≡ answer_of (from_wire (held.wire_of numbers.now)) }
     ensures position { position.new
         ≡ held.position_after (from_wire (held.wire_of numbers.now)) position.old }
 {

@@ -1,5 +1,6 @@
 // Fix records, for callers in C: document 02, item 1.
 ghost use Rattle.std.specs.Prelude.{◌≡◌, length};
+ghost use Rattle.refusals.specs.Refusals.{answer_of};
 ghost use Rattle.reader.specs.Read.{place_refusal, read_of};
 ghost use Rattle.mlat_solver.specs.Records as held;
 
@@ -21,7 +22,7 @@ pub extern "C" fn mlat_read_record(
     numbers: &mut [f64; 18],
     time: &mut i64,
 ) -> u32
-    ensures answer { result ≡ (read_of bytes.now).refusal }
+    ensures answer { result ≡ answer_of (read_of bytes.now) }
     ensures words { words.new ≡ held.words_after (read_of bytes.now) words.old }
     ensures numbers { numbers.new
         ≡ held.numbers_after (read_of bytes.now) numbers.old }

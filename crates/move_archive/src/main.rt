@@ -9,176 +9,93 @@
 // and the bytes before and after are said there.
 #![tactic(auto)]
 
-ghost use Rattle.std.specs.Prelude.{◌≤◌, ◌≡◌, length};
+ghost use Rattle.std.specs.Prelude.{◌≡◌, ◌≤◌};
 ghost use Rattle.move_archive.specs.Moved.{new_of, old_of};
 
+use refusals::Refusal;
+use std::convert::AsSlice;
 use std::io::Read;
 use std::rt::Files;
 
 // A proved loop has to end, and nothing says that a file does: no file has this many records.
 const MOST: u64 = 0xff_ffff_ffff_ffff;
 
-// What became of the next record: there is none, or its number, which is 0 where it is moved. It is not `written` where
-// standard output does not take it.
-#[derive(Clone, Copy)]
-struct Step {
-    ended: bool,
-    refusal: u32,
-    written: bool,
-}
-
-// How many records were moved, and the number of the next one: 0 where there is none.
-#[derive(Clone, Copy)]
-struct Stop {
-    records: u64,
-    refusal: u32,
-    written: bool,
-}
-
-// How many records were moved. It is not `whole` where the file has more, and why is said.
-#[derive(Clone, Copy)]
-struct Outcome {
-    records: u64,
-    whole: bool,
-}
-
-// A record in the archive's form, and one in the old form, with the number that it gets: zeros where it is turned away.
-#[derive(Clone, Copy)]
-struct New {
-    refusal: u32,
-    bytes: [u8; 152],
-}
-
-#[derive(Clone, Copy)]
-struct Old {
-    refusal: u32,
-    bytes: [u8; 176],
-}
-
-fn print(rt: &impl Eprint, text: &str) {
-    host::say(rt, text);
-}
-
-fn print_number(rt: &impl Eprint, number: u64) {
-    host::say(rt, number);
+// Why the records of a file are not moved to its end: the one at this place is turned away with this number, or
+// standard output does not take one, which is said.
+#[derive(Clone, Copy, Debug, PartialEq, Eq)]
+enum Stop {
+    Refused { place: u64, number: u32 },
+    Unwritten,
 }
 
 // Writes what a record is moved to, if that is asked. Whether nothing fails; where it does, that is said.
 fn shown<R: Print + Eprint + Alloc>(rt: &R, out: &[u8], asked: bool) -> bool {
-    if !asked {
-        return true;
-    }
-    host::written(rt, rt.write_all(out), b"move_archive: standard output")
+    !asked || host::written(rt, rt.write_all(out), b"move_archive: standard output")
 }
 
-// A record, moved to the archive's form.
-fn to_new(bytes: &[u8]) -> New
-    ensures { (result ≡ new_of bytes.now) × (152 ≡ length result.bytes) }
+// A record, moved to the archive's form, and one that is moved back: the number that it gets, and its bytes, which are
+// zeros where it is turned away.
+fn to_new(bytes: &[u8]) -> (u32, [u8; 152])
+    ensures { result ≡ new_of bytes.now }
 {
     let mut new = [0u8; 152];
-    let refusal = archive::to_archive(bytes, &mut new);
-    New {
-        refusal,
-        bytes: new,
-    }
+    let refusal = refusals::answer(archive::to_archive(bytes, &mut new));
+    (refusal, new)
 }
 
-// A record, moved back.
-fn to_old(bytes: &[u8]) -> Old
-    ensures { (result ≡ old_of bytes.now) × (176 ≡ length result.bytes) }
+fn to_old(bytes: &[u8]) -> (u32, [u8; 176])
+    ensures { result ≡ old_of bytes.now }
 {
     let mut old = [0u8; 176];
-    let refusal = archive::from_archive(bytes, &mut old);
-    Old {
-        refusal,
-        bytes: old,
-    }
+    let refusal = refusals::answer(archive::from_archive(bytes, &mut old));
+    (refusal, old)
 }
 
-// Writes a record in the archive's form, if that is asked.
-fn there<R: Print + Eprint + Alloc>(rt: &R, bytes: &[u8], write: bool) -> Step {
-    let moved = to_new(bytes);
-    let refusal = moved.refusal;
-    let out = moved.bytes;
-    let written = shown(rt, &out, write && refusal == 0);
-    Step {
-        ended: bytes.len() == 0,
-        refusal,
-        written,
-    }
-}
-
-// Writes a record that is moved back, if that is asked.
-fn back<R: Print + Eprint + Alloc>(rt: &R, bytes: &[u8], write: bool) -> Step {
-    let moved = to_old(bytes);
-    let refusal = moved.refusal;
-    let out = moved.bytes;
-    let written = shown(rt, &out, write && refusal == 0);
-    Step {
-        ended: bytes.len() == 0,
-        refusal,
-        written,
-    }
-}
-
-fn next_old<R: Print + Eprint + Alloc>(rt: &R, file: &mut impl Read, write: bool) -> Step {
+// Moves the next record of the file, which is at this place and has `from` bytes, and writes it, if that is asked.
+// Whether there was one.
+fn next<R: Print + Eprint + Alloc, T: AsSlice<u8> + Copy, F: Fn(&[u8]) -> (u32, T)>(
+    rt: &R,
+    file: &mut impl Read,
+    from: usize,
+    moved: &F,
+    place: u64,
+    write: bool,
+) -> Result<bool, Stop>
+    requires within { from ≤ 176 }
+    requires moves { F.IsAlwaysCallable moved.now }
+{
     let mut bytes = [0u8; 176];
-    let n = host::read_full(file, &mut bytes);
-    there(rt, &bytes[..n], write)
-}
-
-fn next_new<R: Print + Eprint + Alloc>(rt: &R, file: &mut impl Read, write: bool) -> Step {
-    let mut bytes = [0u8; 152];
-    let n = host::read_full(file, &mut bytes);
-    back(rt, &bytes[..n], write)
-}
-
-// Moves the next record of the file, to the archive's form or back.
-fn next<R: Print + Eprint + Alloc>(rt: &R, file: &mut impl Read, to: bool, write: bool) -> Step {
-    if to {
-        return next_old(rt, file, write);
+    let n = host::read_full(file, &mut bytes[..from]);
+    if n == 0 {
+        return Ok(false);
     }
-    next_new(rt, file, write)
+    let (number, out) = moved(&bytes[..n]);
+    if number != 0 {
+        return Err(Stop::Refused { place, number });
+    }
+    if !shown(rt, out.as_slice(), write) {
+        return Err(Stop::Unwritten);
+    }
+    Ok(true)
 }
 
-fn stopped(records: u64, step: Step) -> Stop
-    ensures { result.records ≤ records }
+// Moves the records of the file up to its end, or to the first that is turned away. How many there are.
+fn run<R: Print + Eprint + Alloc, T: AsSlice<u8> + Copy, F: Fn(&[u8]) -> (u32, T)>(
+    rt: &R,
+    file: &mut impl Read,
+    from: usize,
+    moved: &F,
+    write: bool,
+) -> Result<u64, Stop>
+    requires within { from ≤ 176 }
+    requires moves { F.IsAlwaysCallable moved.now }
 {
-    if step.ended {
-        return Stop {
-            records,
-            refusal: 0,
-            written: true,
-        };
-    }
-    Stop {
-        records,
-        refusal: step.refusal,
-        written: step.written,
-    }
-}
-
-fn goes_on(step: Step) -> bool {
-    !step.ended && step.refusal == 0 && step.written
-}
-
-// Moves the records of the file up to its end, or to the first that is turned away.
-fn run<R: Print + Eprint + Alloc>(rt: &R, file: &mut impl Read, to: bool, write: bool) -> Stop
-    ensures { result.records ≤ 72057594037927935 }
-{
-    let mut records = 0;
-    while records < MOST {
-        let step = next(rt, file, to, write);
-        if !goes_on(step) {
-            return stopped(records, step);
+    for place in 0..MOST {
+        if !next(rt, file, from, moved, place, write)? {
+            return Ok(place);
         }
-        records += 1;
     }
-    Stop {
-        records,
-        refusal: 0,
-        written: true,
-    }
+    Ok(MOST)
 }
 
 // Closes the file. Whether reading on in it does not fail; where it does, that is said.
@@ -186,82 +103,78 @@ fn closed<R: Eprint + Alloc>(rt: &R, mut file: impl Read + Drop, path: &[u8]) ->
     host::sound(rt, &mut file, path)
 }
 
-fn print_reason(rt: &impl Eprint, refusal: u32) {
-    if refusal == refusals::TORN_FILE {
-        print(rt, ", torn file: it is not whole\n");
-    } else if refusal == refusals::UNEQUAL_MIRROR {
-        print(rt, ", unequal mirror: mirrored covariance entries differ\n");
+fn reason(number: u32) -> &'static str {
+    if number == Refusal::TornFile.number() {
+        "torn file: it is not whole"
+    } else if number == Refusal::UnequalMirror.number() {
+        "unequal mirror: mirrored covariance entries differ"
     } else {
-        print(
-            rt,
-            ", malformed record: it breaks a rule that every fix record meets\n",
+        "malformed record: it breaks a rule that every fix record meets"
+    }
+}
+
+// Says which record was turned away, if one was.
+fn print_stop(rt: &impl Eprint, stop: Stop) {
+    if let Stop::Refused { place, number } = stop {
+        let reason = reason(number);
+        let _ = eprintln!(rt;
+            "move_archive: the record at place {place} is turned away by {number}, {reason}"
         );
     }
 }
 
-// Says which record was turned away, if one was. Whether none was.
-fn passed(rt: &impl Eprint, stop: Stop) -> bool {
-    if stop.refusal == 0 {
-        return stop.written;
-    }
-    print(rt, "move_archive: the record at place ");
-    print_number(rt, stop.records);
-    print(rt, " is turned away by ");
-    print_number(rt, stop.refusal as u64);
-    print_reason(rt, stop.refusal);
-    false
-}
-
-// Moves the records of the file once, and writes them, if that is asked.
-fn pass<R: Files + Print + Eprint + Alloc>(rt: &R, path: &[u8], to: bool, write: bool) -> Outcome
-    ensures { result.records ≤ 72057594037927935 }
+// Moves the records of the file once, and writes them, if that is asked. How many there are; none where one is not
+// moved, and why is said.
+fn pass<R: Files + Print + Eprint + Alloc, T: AsSlice<u8> + Copy, F: Fn(&[u8]) -> (u32, T)>(
+    rt: &R,
+    path: &[u8],
+    from: usize,
+    moved: &F,
+    write: bool,
+) -> Option<u64>
+    requires within { from ≤ 176 }
+    requires moves { F.IsAlwaysCallable moved.now }
 {
     let mut file = match host::open_read(rt, path) {
         Ok(file) => file,
         Err(error) => {
             host::fail(rt, path, error);
-            return Outcome {
-                records: 0,
-                whole: false,
-            };
+            return None;
         }
     };
-    let stop = run(rt, &mut file, to, write);
-    let read = closed(rt, file, path);
-    let whole = read && passed(rt, stop);
-    Outcome {
-        records: stop.records,
-        whole,
+    let found = run(rt, &mut file, from, moved, write);
+    if !closed(rt, file, path) {
+        return None;
     }
-}
-
-fn print_sizes(rt: &impl Eprint, records: u64, before: u64, after: u64) {
-    print(rt, "move_archive: ");
-    print_number(rt, records);
-    print(rt, " records, ");
-    print_number(rt, before);
-    print(rt, " bytes before, ");
-    print_number(rt, after);
-    print(rt, " after\n");
-}
-
-fn print_moved(rt: &impl Eprint, records: u64, to: bool)
-    requires { records ≤ 72057594037927935 }
-{
-    if to {
-        print_sizes(rt, records, records * 176, records * 152);
-    } else {
-        print_sizes(rt, records, records * 152, records * 176);
-    }
-}
-
-fn move_all<R: Files + Print + Eprint + Alloc>(rt: &R, path: &[u8], to: bool) {
-    let looked = pass(rt, path, to, false);
-    if looked.whole {
-        let moved = pass(rt, path, to, true);
-        if moved.whole {
-            print_moved(rt, moved.records, to);
+    match found {
+        Ok(records) => Some(records),
+        Err(stop) => {
+            print_stop(rt, stop);
+            None
         }
+    }
+}
+
+// Moves the file's records from so many bytes each to so many, once all of them are looked at.
+fn move_all<R: Files + Print + Eprint + Alloc, T: AsSlice<u8> + Copy, F: Fn(&[u8]) -> (u32, T)>(
+    rt: &R,
+    path: &[u8],
+    from: usize,
+    to: usize,
+    moved: F,
+)
+    requires within { from ≤ 176 }
+    requires moves { F.IsAlwaysCallable moved }
+{
+    if pass(rt, path, from, &moved, false).is_none() {
+        return;
+    }
+    if let Some(records) = pass(rt, path, from, &moved, true) {
+        let before = records.wrapping_mul(from as u64);
+        let after = records.wrapping_mul(to as u64);
+        let _ = eprintln!(rt;
+            "move_archive: {records} records, {before} bytes before, {after} after"
+        );
     }
 }
 
@@ -270,12 +183,13 @@ fn main(rt: HostRuntime) {
     let mut path = host::buffer();
     let w = host::arg(&rt, 1, &mut way);
     let p = host::arg(&rt, 2, &mut path);
-    let to = check::same(&way[..w], b"to");
-    let from = check::same(&way[..w], b"from");
-    if host::arg_count(&rt) == 3 && (to || from) {
-        move_all(&rt, &path[..p], to);
+    let whole = host::arg_count(&rt) == 3;
+    if whole && check::same(&way[..w], b"to") {
+        move_all(&rt, &path[..p], 176, 152, |bytes| to_new(bytes));
+    } else if whole && check::same(&way[..w], b"from") {
+        move_all(&rt, &path[..p], 152, 176, |bytes| to_old(bytes));
     } else {
-        print(
+        host::say(
             &rt,
             "usage: move_archive to FILE, or move_archive from FILE\n",
         );

@@ -1,7 +1,8 @@
 -- The nearest of a file is that of its parts. A part's records are the file's (`in-first`, `in-second`), so that the file's search goes on from
 -- the first part as the second's does from none: what is held of the second, joined to the first, takes a further record as the file does
 -- (`goes_on`), since `lt` ranks the distances of fixes. Assumes nothing.
-use Rattle.std.proofs.Common.{◌≡◌, ℕ, zero, suc, ◌+◌, ◌*◌, ◌%◌, ◌^◌, ◌<◌, ◌≤◌, Bool, true, false, cond, not, ◌&&◌, T, eqb, ◌⊎◌, List, ◌++◌, length, take, drop, sym, refl, ap, ◌∙◌, subst, ap₂, inl, inr, add-zero, add-one, arith, length-append, length-drop, eq-eqb}
+use Rattle.std.proofs.Common.{◌≡◌, ℕ, zero, suc, ◌+◌, ◌*◌, ◌%◌, ◌^◌, ◌<◌, ◌≤◌, Bool, true, false, cond, not, ◌&&◌, List, ◌++◌, length, take, drop}
+use Rattle.std.proofs.Common.{sym, refl, ap, ◌∙◌, subst, ap₂, inl, inr, add-zero, add-one, arith, length-append, length-drop, eq-eqb}
 use mathlib.Core.Bool.{false≢true}
 use lib.Seq.{take-append-le, drop-append-le, drop-append-add}
 use lib.Ieee.{Float, lt}
@@ -10,8 +11,8 @@ use Rattle.sets.proofs.Tests.{T→eq, eq→T}
 use Rattle.binary64.proofs.Less.{lt-split, lt_trans}
 use Rattle.reader.specs.Read.{place_refusal, record_at}
 use Rattle.near.specs.declared.Held.{Held}
-use Rattle.near.specs.Near.{records, is_fix, fixes, distance, distance_at, none_held, held_of, held_to, step}
-use Rattle.near.specs.Meaning.{Whole, Sound, GoodPoint}
+use Rattle.near.specs.Near.{records, is_fix, distance, held_of, held_to, step}
+use Rattle.near.specs.Meaning.{Sound, GoodPoint}
 use Rattle.near.specs.Parts.{nearest_in, joined, NearestOfParts}
 use Rattle.near.proofs.Distances.{Num}
 use Rattle.near.proofs.Records.{there}

@@ -2,7 +2,7 @@
 -- least. Assumes nothing.
 use Rattle.std.proofs.Common.{◌≡◌, ℕ, ◌^◌, ◌<◌, ◌≤◌, true, not, T, ltb, ◌⊎◌, List, [], length, refl, subst, inl, inr, arith, ltb→lt, nltb→le, T_not, eq-eqb, eqb-true}
 use mathlib.Core.Option.{Option, none, some}
-use lib.Ieee.{Float, lt, of_bits}
+use lib.Ieee.{Float, of_bits}
 use Rattle.binary64.specs.Steps.{is_finite}
 use Rattle.dense.specs.Entries.{nth}
 use Rattle.sets.specs.Choice.{IsChoice, FirstBest, Ranks}
@@ -11,8 +11,9 @@ use Rattle.sets.proofs.Choosing.{choose-is}
 use Rattle.words.specs.Words.{f64_at, u64_at, word_at}
 use Rattle.binary64.proofs.Less.{lt-asym, lt-split, le_of_not_lt, le-lt}
 use Rattle.reader.specs.Rules.{answer_at}
-use Rattle.reader.specs.Read.{record_at, three_at}
-use Rattle.reader.proofs.Meaning.{accepted}
+use Rattle.refusals.specs.Refusals.{no_such_place}
+use Rattle.reader.specs.Read.{place_refusal, record_at, three_at}
+use Rattle.reader.proofs.Reading.{accepted}
 use Rattle.reader.proofs.Places.{no-such-place, refused}
 use Rattle.reader.proofs.Tests.{fix-meets, low-finite}
 use Rattle.near.specs.Near.{records, is_fix, fixes, distance, distance_at, closer, nearest, place_of, nearest_answer, place_after}
@@ -41,7 +42,8 @@ module _ (file : List ℕ) (s : Sound file) where
   past_end : (k : ℕ) → records file ≤ k → [] ≡ record_at file k
   past_end k h =
       let w = s.whole in
-      refused file k 17 (no-such-place (length file) k (omega arith) h) (λ e. omega arith)
+      let n : no_such_place ≡ place_refusal (length file) k = no-such-place (length file) k (omega arith) h in
+      refused file k (λ e. omega arith)
 
   ecef-finite : (k : ℕ) → T (fixes file k) → (i : ℕ) → i < 3 → is_finite (nth (three_at (record_at file k) 16) i) ≡ true
   ecef-finite k t = go (either (ltb k (records file)))

@@ -2,10 +2,18 @@
 use Rattle.std.proofs.Common.{◌≡◌, ℕ, zero, suc, ◌+◌, ◌*◌, ◌<◌, Bool, true, false, ◌&&◌, List, length, sym, refl, ap, ◌∙◌, ⊎_elim, add-one, arith}
 use mathlib.Core.Bool.{false≢true}
 use Rattle.sets.proofs.Tests.{lt-suc-cases}
-use Rattle.reader.specs.Read.{place_refusal, record_at}
-use Rattle.reader.proofs.Places.{placed}
+use Rattle.std.specs.Prelude.{Result, Ok, Err, is_ok, eqb}
+use Rattle.std.specs.Result.{result_map_both}
+use borrow.Author.Tests.{ne_eqb}
+use Rattle.refusals.specs.declared.Refusal.{Refusal}
+use Rattle.refusals.specs.Refusals.{number_of, answer_of}
+use Rattle.reader.specs.declared.content.Content.{Content}
+use Rattle.reader.specs.Read.{place_refusal, record_at, read_of}
+use Rattle.reader.proofs.Numbered.{not-zero}
+use Rattle.reader.proofs.Places.{placed, refused}
 use Rattle.reader.proofs.Meaning.{own-bytes}
-use Rattle.reader.proofs.Tests.{both_true, both_hold}
+use Rattle.std.specs.List.{list_all, range_with_len}
+use Rattle.reader.proofs.Tests.{both_true, both_hold, one-more}
 use Rattle.near.specs.Near.{readable, readable_to}
 
 -- a file of n records has one at each place below n
@@ -16,7 +24,24 @@ there size n k e h = sym (placed size k (omega arith) (omega arith))
 pub sized : (file : List ℕ) (k : ℕ) → place_refusal (length file) k ≡ 0 → length (record_at file k) ≡ 176
 sized file k e = (own-bytes file k e).0
 
+-- the test of a record that is there, and of one that is not
+pub tested
+    : {A : Type 0} (v : Content) {read : Result Content Refusal} (r : Result A Refusal) → read ≡ result_map_both (λ _. v) (λ why. why) r
+    → is_ok r ≡ eqb (answer_of read) 0
+tested v (Ok x) e = rw e
+tested v (Err why) e = rw e (sym (ne_eqb (number_of why) 0 (not-zero why)))
+
+pub none-there : (file : List ℕ) (k : ℕ) → (place_refusal (length file) k ≡ 0 → ⊥) → false ≡ readable file k
+unfolding read_of
+none-there file k n = rw (← refused file k n)
+
 -- ---- all readable, or one is not
+
+pub readable-each : (file : List ℕ) (n : ℕ) → list_all (readable file) (range_with_len 0 n) ≡ readable_to file n
+unfolding readable_to
+readable-each file zero = refl
+readable-each file (suc n) =
+    ap (λ k. list_all (readable file) (range_with_len 0 k)) (sym (add-one n)) ∙ one-more (readable file) n ∙ rw (readable-each file n)
 
 module _ (file : List ℕ) where
   pub one_more : (k : ℕ) → readable_to file k ≡ true → readable file k ≡ true → readable_to file (k + 1) ≡ true

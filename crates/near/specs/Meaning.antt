@@ -3,7 +3,7 @@
 use Rattle.std.specs.Prelude.{◌≡◌, ℕ, ◌*◌, ◌^◌, ◌<◌, ◌≤◌, true, false, not, T, ◌↔◌, List, length, ◌≢◌, is_nan, slice_index, Float}
 use Rattle.std.specs.Float.Ieee.{lt, le}
 use Rattle.std.specs.Float.{inf}
-use Rattle.refusals.specs.Refusals.{short_output, torn_file, malformed_record, bad_query}
+use Rattle.refusals.specs.Refusals.{short_output, torn_file, malformed_record, bad_query, answer_of}
 use Rattle.binary64.specs.Steps.{#, decimal, nought, abs, is_finite}
 use Rattle.dense.specs.Entries.{nth}
 use Rattle.linalg.specs.Vec3.{three, sub, norm}
@@ -37,7 +37,7 @@ Whole file = length file ≡ record_bytes * records file
 
 -- the reader takes the record at a place apart
 abbrev pub Readable : List ℕ → ℕ → Type 0
-Readable file k = (read_of (record_at file k)).refusal ≡ 0
+Readable file k = answer_of (read_of (record_at file k)) ≡ 0
 
 -- whole records, each of which it takes apart
 pub record Sound (file : List ℕ) : Type 0 where

@@ -3,7 +3,7 @@
 use Rattle.std.specs.Prelude.{ℕ, zero, suc, ◌-◌, ◌/◌, ◌%◌, ◌^◌, Bool, true, false, cond, not, ◌&&◌, List, length, ◌==◌, nat_lt, Float}
 use Rattle.std.proofs.Math.Option.{Option, none, some}
 use Rattle.std.specs.Float.Ieee.{lt, le}
-use Rattle.refusals.specs.Refusals.{short_output, torn_file, malformed_record, bad_query}
+use Rattle.refusals.specs.Refusals.{short_output, torn_file, malformed_record, bad_query, answer_of}
 use Rattle.binary64.specs.Steps.{decimal, nought, abs, is_finite}
 use Rattle.dense.specs.Entries.{nth}
 use Rattle.linalg.specs.Vec3.{sub, norm}
@@ -22,7 +22,7 @@ records file = length file / record_bytes
 
 -- whether the record at a place is one that the reader takes apart, and whether those at the places below k are
 abbrev pub readable : List ℕ → ℕ → Bool
-readable file k = (read_of (record_at file k)).refusal == 0
+readable file k = answer_of (read_of (record_at file k)) == 0
 
 unfoldable pub readable_to : List ℕ → ℕ → Bool
 readable_to file zero = true

@@ -4,13 +4,16 @@
 
 mod query;
 
-ghost use Rattle.std.specs.Prelude.{◌≡◌, ◌+◌, ◌*◌, ◌≤◌, length};
-ghost use Rattle.reader.specs.Read.{place_refusal};
+ghost use Rattle.std.specs.Prelude.{ℕ, ◌≡◌, ◌+◌, ◌*◌, ◌≤◌, length};
+ghost use Rattle.std.specs.Result.{result_unwrap_or};
+ghost use Rattle.refusals.specs.Refusals.{answer_of};
+ghost use Rattle.reader.specs.Read.{place_refusal, record_at};
 ghost use Rattle.sets.specs.Sets.{count, members_to};
 ghost use Rattle.near.specs.Near as near;
 ghost use Rattle.near.specs.Parts as parts;
 
 use linalg::Vec3;
+use refusals::Refusal;
 
 // The bytes of a record.
 const SIZE: usize = 176;
@@ -30,46 +33,41 @@ pub struct Held {
 fn readable(file: &[u8], k: usize) -> bool
     ensures { result ≡ near.readable file.now k }
 {
-    reader::record_refusal(reader::record_at(file, k as u64)) == 0
+    match reader::record_at(file, k as u64) {
+        Ok(record) => reader::check(record).is_ok(),
+        Err(_) => false,
+    }
 }
 
 // Whether the reader takes the records at the first n places apart.
 fn all_readable(file: &[u8], n: usize) -> bool
     ensures { result ≡ near.readable_to file.now n }
 {
-    for k in 0..n {
-        if !readable(file, k) {
-            return false;
-        }
-    }
-    true
+    (0..n).all(|k| readable(file, k))
 }
 
-// Why the file is turned away: 16, then 18, and 0 where it is not.
-fn file_refusal(file: &[u8]) -> u32
-    ensures { result ≡ near.file_refusal file.now }
+// Why the file is turned away: 16, then 18.
+fn check_file(file: &[u8]) -> Result<(), Refusal>
+    ensures { answer_of result ≡ near.file_refusal file.now }
 {
     if file.len() % SIZE != 0 {
-        return refusals::TORN_FILE;
+        return Err(Refusal::TornFile);
     }
     if !all_readable(file, file.len() / SIZE) {
-        return refusals::MALFORMED_RECORD;
+        return Err(Refusal::MalformedRecord);
     }
-    0
+    Ok(())
 }
 
 // The same, then 22 where the query is not good.
-fn query_refusal(file: &[u8], good: bool) -> u32
-    ensures { result ≡ near.query_refusal file.now good }
+fn check_query(file: &[u8], good: bool) -> Result<(), Refusal>
+    ensures { answer_of result ≡ near.query_refusal file.now good }
 {
-    let unread = file_refusal(file);
-    if unread != 0 {
-        return unread;
-    }
+    check_file(file)?;
     if !good {
-        return refusals::BAD_QUERY;
+        return Err(Refusal::BadQuery);
     }
-    0
+    Ok(())
 }
 
 // Whether a record is a fix.
@@ -92,14 +90,20 @@ fn distance(bytes: &[u8], point: Vec3) -> f64
 }
 
 // Whether a record is a fix within the radius.
+#[tactic(auto, unfolding(crate::specs::Near::is_near))]
 fn is_near(bytes: &[u8], point: Vec3, radius: f64) -> bool
     requires { length bytes.now ≡ 176 }
     ensures { result ≡ near.is_near point radius bytes.now }
 {
-    if !is_fix(bytes) {
-        return false;
-    }
-    distance(bytes, point) <= radius
+    is_fix(bytes) && distance(bytes, point) <= radius
+}
+
+// The record at a place that the file has.
+fn record_of(file: &[u8], k: usize) -> &[u8]
+    requires { place_refusal (length file.now) k ≡ 0 }
+    ensures { result.now ≡ record_at file.now k }
+{
+    reader::record_at(file, k as u64).unwrap()
 }
 
 // Whether the record at a place is a fix within the radius.
@@ -107,7 +111,7 @@ fn near_at(file: &[u8], k: usize, point: Vec3, radius: f64) -> bool
     requires { place_refusal (length file.now) k ≡ 0 }
     ensures { result ≡ near.within file.now point radius k }
 {
-    is_near(reader::record_at(file, k as u64), point, radius)
+    is_near(record_of(file, k), point, radius)
 }
 
 // The places of the fixes within the radius, ascending, into `places`. Gives how many.
@@ -126,26 +130,22 @@ fn list(file: &[u8], n: usize, point: Vec3, radius: f64, places: &mut [u64]) -> 
     count as u64
 }
 
-// The places, from 0, of the fixes of a file within the radius of the point, in file order, into `places`, and how
-// many they are into `count`. 14 where fewer entries are lent than the file may have records, then 16 and 18 as the
-// reader has them, then 22. A refusal changes nothing lent.
-pub fn within(file: &[u8], point: Vec3, radius: f64, places: &mut [u64], count: &mut u64) -> u32
-    ensures answer { result ≡ near.within_answer file.now point radius places.old }
+// The places, from 0, of the fixes of a file within the radius of the point, in file order, into `places`. Gives how
+// many they are. 14 where fewer entries are lent than the file may have records, then 16 and 18 as the reader has them,
+// then 22. A refusal changes nothing lent.
+pub fn within(file: &[u8], point: Vec3, radius: f64, places: &mut [u64]) -> Result<u64, Refusal>
+    ensures answer { answer_of result ≡ near.within_answer file.now point radius places.old }
     ensures list { places.new
         ≡ near.places_after file.now point radius places.old }
-    ensures count { count.new
-        ≡ near.count_after file.now point radius places.old count.old }
+    ensures count { (found : ℕ) → result_unwrap_or result found
+        ≡ near.count_after file.now point radius places.old found }
 {
     let n = file.len() / SIZE;
     if places.len() < n {
-        return refusals::SHORT_OUTPUT;
+        return Err(Refusal::ShortOutput);
     }
-    let refusal = query_refusal(file, query::good_query(point, radius));
-    if refusal != 0 {
-        return refusal;
-    }
-    *count = list(file, n, point, radius, places);
-    0
+    check_query(file, query::good_query(point, radius))?;
+    Ok(list(file, n, point, radius, places))
 }
 
 // The nearest fix, once a record at place k is looked at.
@@ -177,7 +177,7 @@ fn nearest_to(file: &[u8], k: usize, point: Vec3, held: Held) -> Held
     requires { (place_refusal (length file.now) k ≡ 0) × (held ≡ near.held_to file.now point k) }
     ensures { result ≡ near.held_to file.now point (k + 1) }
 {
-    step(reader::record_at(file, k as u64), k, point, held)
+    step(record_of(file, k), k, point, held)
 }
 
 // None so far.
@@ -213,26 +213,22 @@ fn find(file: &[u8], n: usize, point: Vec3) -> u64
     held.place
 }
 
-// The place, from 0, of the fix of a file that is nearest to the point, the earliest of those at one distance, into
-// `place`; the greatest u64 where the file has no fix. 16 and 18 as the reader has them, then 22. A refusal changes
-// nothing lent.
-pub fn nearest(file: &[u8], point: Vec3, place: &mut u64) -> u32
-    ensures answer { result ≡ near.nearest_answer file.now point }
-    ensures place { place.new ≡ near.place_after file.now point place.old }
+// Why a search for the nearest is turned away: what `nearest` answers, without the search.
+pub fn check_nearest(file: &[u8], point: Vec3) -> Result<(), Refusal>
+    ensures { answer_of result ≡ near.nearest_answer file.now point }
 {
-    let answer = query_refusal(file, query::good_point(point));
-    if answer != 0 {
-        return answer;
-    }
-    *place = find(file, file.len() / SIZE, point);
-    0
+    check_query(file, query::good_point(point))
 }
 
-// Why a search for the nearest is turned away: what `nearest` answers, without the search.
-pub fn nearest_refusal(file: &[u8], point: Vec3) -> u32
-    ensures { result ≡ near.nearest_answer file.now point }
+// The place, from 0, of the fix of a file that is nearest to the point, the earliest of those at one distance; the
+// greatest u64 where the file has no fix. 16 and 18 as the reader has them, then 22.
+pub fn nearest(file: &[u8], point: Vec3) -> Result<u64, Refusal>
+    ensures answer { answer_of result ≡ near.nearest_answer file.now point }
+    ensures place { (found : ℕ) → result_unwrap_or result found
+        ≡ near.place_after file.now point found }
 {
-    query_refusal(file, query::good_point(point))
+    check_nearest(file, point)?;
+    Ok(find(file, file.len() / SIZE, point))
 }
 
 // The nearest fix of a part of a file, with its distance; none where the part is not whole records.

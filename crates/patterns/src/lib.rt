@@ -5,7 +5,10 @@
 ghost use Rattle.std.specs.Prelude.{◌≡◌, ◌^◌, ◌≤◌, ◌<◌};
 ghost use Rattle.sets.specs.Mask.{has};
 ghost use Rattle.screen.specs.Held.{pairs_of};
+ghost use Rattle.refusals.specs.Refusals.{answer_of};
 ghost use Rattle.patterns.specs.Patterns.{pairs, clash, failing, survivors, table, answer, counts_after};
+
+use refusals::Refusal;
 
 // "a set of 0 to 6 receptions".
 const MOST: u32 = 6;
@@ -39,12 +42,10 @@ fn row(pattern: u32, n: usize, a: usize) -> u32
     ensures { has result ≡ failing n pattern a }
 {
     let mut row = 0u32;
-    let mut b = 0usize;
-    while b < n {
+    for b in 0..n {
         if clash(pattern, a, b) {
             row += 1u32 << b;
         }
-        b += 1;
     }
     row
 }
@@ -55,10 +56,8 @@ fn failing(pattern: u32, n: usize) -> [u32; 32]
     ensures { pairs_of result ≡ failing n pattern }
 {
     let mut rows = [0u32; 32];
-    let mut a = 0usize;
-    while a < n {
+    for a in 0..n {
         rows[a] = row(pattern, n, a);
-        a += 1;
     }
     rows
 }
@@ -79,23 +78,22 @@ fn tallied(n: usize) -> [u64; 7]
 {
     let mut counts = [0u64; 7];
     let end = 1u32 << pairs(n);
-    let mut p = 0u32;
-    while p < end {
+    for p in 0..end {
         let s = survivors(p, n) as usize;
         counts[s] += 1;
-        p += 1;
     }
     counts
 }
 
-// How many patterns of that many receptions leave 0, 1, .. 6 survivors, to `counts`. 24 over six; then these stay.
-pub fn clash_patterns(receptions: u32, counts: &mut [u64; 7]) -> u32
-    ensures answer { result ≡ answer receptions }
+// How many patterns of that many receptions leave 0, 1, .. 6 survivors, to `counts`. Over six is refused; then these
+// stay.
+pub fn clash_patterns(receptions: u32, counts: &mut [u64; 7]) -> Result<(), Refusal>
+    ensures answer { answer_of result ≡ answer receptions }
     ensures counts { counts.new ≡ counts_after receptions counts.old }
 {
     if MOST < receptions {
-        return refusals::OVER_SIX;
+        return Err(Refusal::OverSix);
     }
     *counts = tallied(receptions as usize);
-    0
+    Ok(())
 }

@@ -7,6 +7,8 @@ pub mod Assembled
 pub mod Copied
 pub mod Round
 pub mod Nothing
+pub mod Numbered
+pub mod Reading
 pub mod Meaning
 pub mod Writing
 pub mod Table

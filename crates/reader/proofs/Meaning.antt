@@ -4,22 +4,24 @@ use mathlib.Core.Path.{◌≡◌, refl, sym, ap, ◌∙◌}
 use mathlib.Core.Bool.{Bool, true, false, cond, false≢true}
 use mathlib.Core.List.{List}
 use native.Mathlib.Omega.{arith}
-use lib.Dec.{eqb, ltb}
+use lib.Dec.{ltb}
 use lib.ListN.{length, drop, length-drop}
 use lib.Seq.{length-take-le, get_or-take, get_or-drop, take_at}
-use borrow.Author.Tests.{eq-eqb, ne_eqb, eqb-true, le-ltb}
+use borrow.Author.Tests.{eq-eqb, ne_eqb, le-ltb}
+use Rattle.std.specs.Prelude.{Ok}
+use Rattle.refusals.specs.Refusals.{answer_of}
 use Rattle.record.specs.Record.{stored}
 use Rattle.reader.specs.declared.content.Content.{Content}
-use Rattle.reader.specs.declared.content.Reading.{Reading}
 use Rattle.reader.specs.Tests.{meets_rules}
-use Rattle.reader.specs.Read.{place_refusal, read_of, content_at, bytes_of, readable, turned_away, write_answer, write_output}
-use Rattle.reader.specs.Meaning.{taken_apart, Held, PlacesOfRecords, OwnBytes, TakesApartExactly, TurnsAwayOthers}
+use Rattle.reader.specs.Read.{place_refusal, read_of, content_at, bytes_of, readable, write_answer, write_output}
+use Rattle.reader.specs.Meaning.{Held, PlacesOfRecords, OwnBytes, TakesApartExactly, TurnsAwayOthers}
 use Rattle.reader.specs.Meaning.{WritesWhatWasRead, ReadsWhatWasWritten, RefusesWhatNoReadGives}
 use Rattle.reader.proofs.Paragraph.{tests-are-rules}
 use Rattle.reader.proofs.Places.{torn-file, no-such-place, placed, within-file, there}
 use Rattle.reader.proofs.Round.{again}
 use Rattle.reader.proofs.Nothing.{read-readable}
 use Rattle.reader.proofs.Value.{value-back, bytes-sized, bytes-bytes}
+use Rattle.reader.proofs.Reading.{accepted, taken-apart, what-is-read}
 use Rattle.reader.proofs.Writing.{written}
 
 -- ---- the record at a place
@@ -39,7 +41,7 @@ places-of-records size place = (whole, torn)
 pub own-bytes : OwnBytes
 own-bytes file place e =
     let fits : 176 * place + 176 ≤ length file = within-file (length file) place e in
-    let part = there file place (place_refusal (length file) place) refl e in
+    let part = there file place e in
     let rest = drop (176 * place) file in
     let long : 176 ≤ length rest = rw (length-drop (176 * place) file) (omega arith) in (
       rw (sym part) (length-take-le 176 rest long),
@@ -47,22 +49,6 @@ own-bytes file place e =
     )
 
 -- ---- reading
-
--- only the first of three readings is no refusal
-first : (a b : Bool) (x y z : Reading) → (y.refusal ≡ 18) → (z.refusal ≡ 16) → ((cond a (cond b x y) z).refusal ≡ 0) → (a ≡ true) × (b ≡ true)
-first true true x y z p q e = (refl, refl)
-first true false x y z p q e = let n : ◌≡◌ {A = ℕ} 0 18 = sym e ∙ p in absurd (omega arith)
-first false b x y z p q e = let n : ◌≡◌ {A = ℕ} 0 16 = sym e ∙ q in absurd (omega arith)
-
-pub accepted : (s : List ℕ) → ((read_of s).refusal ≡ 0) → (length s ≡ 176) × (meets_rules s ≡ true)
-unfolding read_of
-accepted s e =
-    let t = first (eqb (length s) 176) (meets_rules s) (taken_apart (content_at s)) (turned_away 18) (turned_away 16) refl refl e in
-    (eqb-true _ _ t.0, t.1)
-
-pub taken-apart : (s : List ℕ) → length s ≡ 176 → meets_rules s ≡ true → read_of s ≡ taken_apart (content_at s)
-unfolding read_of
-taken-apart s l m = rw (eq-eqb (length s) 176 l, m)
 
 pub takes-apart-exactly : TakesApartExactly
 takes-apart-exactly s b =
@@ -83,11 +69,11 @@ turns-away-others s b = (
 -- ---- writing
 
 pub writes-what-was-read : WritesWhatWasRead
-writes-what-was-read s out b e h =
-    let t = accepted s e in
-    let v = content_at s in
-    let w = written v out (stored out (bytes_of v)) (bytes_of v) h (read-readable s t.0 b t.1) refl refl in
-    rw (taken-apart s t.0 t.1) (sym w.0, sym w.1 ∙ ap (stored out) (again s t.0 b t.1))
+writes-what-was-read s out v b e h =
+    let t = accepted s (ap answer_of e) in
+    let same : content_at s ≡ v = sym (what-is-read s v e) in
+    let w = written v out (stored out (bytes_of v)) (bytes_of v) h (ap readable (sym same) ∙ read-readable s t.0 b t.1) refl refl in
+    (sym w.0, sym w.1 ∙ ap (stored out) (ap bytes_of (sym same) ∙ again s t.0 b t.1))
 
 -- a write that is not refused
 allowed : (a b : Bool) → ◌≡◌ {A = ℕ} (cond a 14 (cond b 0 18)) 0 → (a ≡ false) × (b ≡ true)
@@ -95,8 +81,8 @@ allowed true b e = absurd (omega arith)
 allowed false true e = (refl, refl)
 allowed false false e = absurd (omega arith)
 
-back : (v : Content) → Held v → readable v ≡ true → read_of (bytes_of v) ≡ taken_apart v
-back v h r = let t = value-back v h r in taken-apart (bytes_of v) (bytes-sized v) t.0 ∙ ap taken_apart (sym t.1)
+back : (v : Content) → Held v → readable v ≡ true → read_of (bytes_of v) ≡ Ok v
+back v h r = let t = value-back v h r in taken-apart (bytes_of v) (bytes-sized v) t.0 ∙ ap Ok (sym t.1)
 
 pub reads-what-was-written : ReadsWhatWasWritten
 unfolding write_answer write_output
@@ -120,8 +106,8 @@ module _ (v : Content) (out : List ℕ) (h : 176 ≤ length out) where
 pub refuses-what-no-read-gives : RefusesWhatNoReadGives
 refuses-what-no-read-gives v out h l = (
   λ w s b e.
-      let t = accepted s (ap (λ (r : Reading). r.refusal) e) in
-      let same : content_at s ≡ v = ap (λ (r : Reading). r.content) (sym (taken-apart s t.0 t.1) ∙ e) in
+      let t = accepted s (ap answer_of e) in
+      let same : content_at s ≡ v = sym (what-is-read s v e) in
       false≢true (sym (unreadable v out l (readable v) refl w) ∙ sym (ap readable same) ∙ read-readable s t.0 b t.1),
   λ n. refused v out l (readable v) refl (λ r. n (bytes_of v) (bytes-bytes v) (back v h r)),
 )

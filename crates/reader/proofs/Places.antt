@@ -1,6 +1,6 @@
 -- Why a place is refused, and that a record at one that is not lies within the file. Assumes nothing.
 use Prim.Native.Nat.{ℕ, ◌+◌, ◌*◌, ◌/◌, ◌%◌, ◌<◌, ◌≤◌}
-use mathlib.Core.Path.{◌≡◌, refl, sym, ◌∙◌}
+use mathlib.Core.Path.{◌≡◌, refl}
 use mathlib.Core.Bool.{Bool, true, false, cond}
 use mathlib.Core.List.{List, []}
 use native.Mathlib.Omega.{arith}
@@ -40,11 +40,10 @@ within-file size place e =
     let below : place < size / 176 = ltb-true _ _ t.1 in
     omega arith
 
-module _ (file : List ℕ) (place r : ℕ) (told : r ≡ place_refusal (length file) place) where
-  pub refused : (r ≡ 0 → ⊥) → [] ≡ record_at file place
-  unfolding record_at
-  refused n = rw (ne_eqb (place_refusal (length file) place) 0 (λ e. n (told ∙ e)))
+pub there : (file : List ℕ) (place : ℕ) → place_refusal (length file) place ≡ 0 → take 176 (drop (176 * place) file) ≡ record_at file place
+unfolding record_at
+there file place e = rw (eq-eqb (place_refusal (length file) place) 0 e)
 
-  pub there : r ≡ 0 → take 176 (drop (176 * place) file) ≡ record_at file place
-  unfolding record_at
-  there e = rw (eq-eqb (place_refusal (length file) place) 0 (sym told ∙ e))
+pub refused : (file : List ℕ) (place : ℕ) → (place_refusal (length file) place ≡ 0 → ⊥) → [] ≡ record_at file place
+unfolding record_at
+refused file place n = rw (ne_eqb (place_refusal (length file) place) 0 n)

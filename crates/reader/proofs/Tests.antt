@@ -1,12 +1,16 @@
 -- Tests joined by &&, and what the tests of bytes and of floats say place by place. Assumes nothing.
 use Prim.Native.Nat.{ℕ, zero, suc, ◌+◌, ◌*◌, ◌<◌, ◌≤◌}
-use mathlib.Core.Path.{◌≡◌, refl}
+use mathlib.Core.Path.{◌≡◌, refl, sym, ap, ◌∙◌}
 use mathlib.Core.Bool.{Bool, true, false, ◌&&◌, false≢true}
 use mathlib.Core.Logic.{⊎_elim}
-use mathlib.Core.List.{List}
+use mathlib.Core.List.{List, [], ◌∷◌, map}
 use native.Mathlib.Omega.{arith}
 use lib.Dec.{leb, eqb, lit<}
-use lib.ListN.{get_or}
+use lib.ListN.{get_or, take, drop, length, length-drop}
+use lib.Seq.{get_or-drop}
+use Rattle.std.specs.List.{list_all, range_with_len}
+use Rattle.std.proofs.lemmas.List.Folds.{list_all_more, list_all-map, list_all-append}
+use Rattle.std.proofs.lemmas.List.FromFn.{map-range_with_len_more}
 use borrow.Author.Tests.{eqb-true}
 use Rattle.binary64.specs.Steps.{is_finite}
 use Rattle.sets.proofs.Tests.{lt-suc-cases}
@@ -37,12 +41,44 @@ all-8 a b c d e f g h q =
     let v = both_true d (e && (f && (g && h))) u.1 in
     let w = all-4 e f g h v.1 in (r.0, t.0, u.0, v.0, w.0, w.1, w.2, w.3)
 
+-- the same by the bytes of the part
+pub zeros-part : (s : List ℕ) (k count : ℕ) → k + count ≤ length s → list_all (λ b. eqb b 0) (take count (drop k s)) ≡ zeros s k count
+unfolding zeros
+zeros-part s k zero h = refl
+zeros-part s k (suc c) h =
+    let part = drop k s in
+    let more : c < length part = rw (length-drop k s) (omega arith) in
+    let one : suc c ≡ c + 1 = omega arith in
+    rw (one, list_all_more (λ b. eqb b 0) part c 0 more, zeros-part s k c (omega arith), get_or-drop k s c 0)
+
 pub zeros-at : (s : List ℕ) (k count : ℕ) → zeros s k count ≡ true → (i : ℕ) → i < count → get_or s (k + i) 0 ≡ 0
 unfolding zeros
 zeros-at s k zero e i h = absurd (omega arith)
 zeros-at s k (suc c) e i h =
     let t = both_true (zeros s k c) (eqb (get_or s (k + c) 0) 0) e in
     ⊎_elim (λ q. rw q (eqb-true _ _ t.1)) (λ l. zeros-at s k c t.0 i l) (lt-suc-cases i c h)
+
+with-true : (a b : Bool) → (a && (b && true)) ≡ (a && b)
+with-true a true = refl
+with-true a false = refl
+
+-- one place more
+pub one-more : (p : ℕ → Bool) (c : ℕ) → list_all p (range_with_len 0 (c + 1)) ≡ (list_all p (range_with_len 0 c) && p c)
+one-more p c =
+    let id : Bool → Bool = λ b. b in
+    sym (list_all-map id p (range_with_len 0 (c + 1)))
+    ∙ ap (list_all id) (map-range_with_len_more p 0 c c (omega arith))
+    ∙ list_all-append id (map p (range_with_len 0 c)) (p c ∷ [])
+    ∙ rw (list_all-map id p (range_with_len 0 c)) (with-true (list_all p (range_with_len 0 c)) (p c))
+
+-- the same by the places of the numbers
+pub finite-each : (s : List ℕ) (k count : ℕ) → list_all (λ i. is_finite (f64_at s (k + 8 * i))) (range_with_len 0 count) ≡ finite s k count
+unfolding finite
+finite-each s k zero = refl
+finite-each s k (suc c) =
+    let one : suc c ≡ c + 1 = omega arith in
+    let p : ℕ → Bool = λ i. is_finite (f64_at s (k + 8 * i)) in
+    ap (λ n. list_all p (range_with_len 0 n)) one ∙ one-more p c ∙ rw (finite-each s k c)
 
 pub finite-at : (s : List ℕ) (k count : ℕ) → finite s k count ≡ true → (i : ℕ) → i < count → is_finite (f64_at s (k + 8 * i)) ≡ true
 unfolding finite

@@ -1,15 +1,15 @@
 -- Document 02, item 1: what reading and writing come to. Statements only: proofs/ proves each.
-use Rattle.std.specs.Prelude.{ℕ, ◌+◌, ◌*◌, ◌^◌, ◌<◌, ◌≤◌, ◌≡◌, true, List, T, length, take, get_or, Float}
+use Rattle.std.specs.Prelude.{ℕ, ◌+◌, ◌*◌, ◌^◌, ◌<◌, ◌≤◌, ◌≡◌, true, List, T, length, take, get_or, Float, Ok, Err}
 use Rattle.std.specs.Float.{binary64}
 use Rattle.std.specs.Float.Ieee.{fits}
 use Rattle.std.specs.Int.{w64}
 use Rattle.std.proofs.Common.{SFits}
-use Rattle.refusals.specs.Refusals.{torn_file, no_such_place, malformed_record}
+use Rattle.refusals.specs.declared.Refusal.TheVariants.{TornFile, MalformedRecord}
+use Rattle.refusals.specs.Refusals.{torn_file, no_such_place, malformed_record, answer_of}
 use Rattle.dense.specs.Entries.{nth}
 use Rattle.record.specs.declared.content.Fix.{Fix}
 use Rattle.record.specs.Record.{metres, stored, record_bytes}
 use Rattle.reader.specs.declared.content.Content.{Content}
-use Rattle.reader.specs.declared.content.Reading.{Reading}
 use Rattle.reader.specs.Rules.{Rules}
 use Rattle.reader.specs.Tests.{meets_rules}
 use Rattle.reader.specs.Read.{place_refusal, record_at, read_of, content_at, write_answer, write_output}
@@ -37,10 +37,6 @@ OwnBytes =
 
 -- ---- reading
 
--- what is read from s where nothing is refused
-abbrev pub taken_apart : Content → Reading
-taken_apart v = record { refusal = 0; content = v }
-
 -- the tests that `read` makes are the rules, rule by rule
 abbrev pub TestsAreRules : Type 0
 TestsAreRules = (s : List ℕ) → Bytes s → (meets_rules s ≡ true → Rules s) × (Rules s → meets_rules s ≡ true)
@@ -49,15 +45,15 @@ TestsAreRules = (s : List ℕ) → Bytes s → (meets_rules s ≡ true → Rules
 abbrev pub TakesApartExactly : Type 0
 TakesApartExactly =
     (s : List ℕ) → Bytes s
-    → (((read_of s).refusal ≡ 0) → (length s ≡ record_bytes) × Rules s)
-    × ((length s ≡ record_bytes) → Rules s → read_of s ≡ taken_apart (content_at s))
+    → ((answer_of (read_of s) ≡ 0) → (length s ≡ record_bytes) × Rules s)
+    × ((length s ≡ record_bytes) → Rules s → read_of s ≡ Ok (content_at s))
 
 -- "a length other than 176 is 16", "then 18 malformed record"
 abbrev pub TurnsAwayOthers : Type 0
 TurnsAwayOthers =
     (s : List ℕ) → Bytes s
-    → (((length s ≡ record_bytes) → ⊥) → (read_of s).refusal ≡ torn_file)
-    × ((length s ≡ record_bytes) → (Rules s → ⊥) → (read_of s).refusal ≡ malformed_record)
+    → (((length s ≡ record_bytes) → ⊥) → read_of s ≡ Err TornFile)
+    × ((length s ≡ record_bytes) → (Rules s → ⊥) → read_of s ≡ Err MalformedRecord)
 
 -- ---- writing
 
@@ -92,18 +88,18 @@ pub record Held (v : Content) : Type 0 where
 -- "Writing a read record gives its bytes again"
 abbrev pub WritesWhatWasRead : Type 0
 WritesWhatWasRead =
-    (s out : List ℕ) → Bytes s → ((read_of s).refusal ≡ 0) → record_bytes ≤ length out
-    → (write_answer (read_of s).content out ≡ 0) × (write_output (read_of s).content out ≡ stored out s)
+    (s out : List ℕ) (v : Content) → Bytes s → read_of s ≡ Ok v → record_bytes ≤ length out
+    → (write_answer v out ≡ 0) × (write_output v out ≡ stored out s)
 
 -- and what was written is read again as the same value
 abbrev pub ReadsWhatWasWritten : Type 0
 ReadsWhatWasWritten =
     (v : Content) (out : List ℕ) → Held v → write_answer v out ≡ 0
-    → read_of (take record_bytes (write_output v out)) ≡ taken_apart v
+    → read_of (take record_bytes (write_output v out)) ≡ Ok v
 
 -- "any other value gets 18": 18 is given for exactly those that are read from no bytes
 abbrev pub RefusesWhatNoReadGives : Type 0
 RefusesWhatNoReadGives =
     (v : Content) (out : List ℕ) → Held v → record_bytes ≤ length out
-    → (write_answer v out ≡ malformed_record → (s : List ℕ) → Bytes s → (read_of s ≡ taken_apart v → ⊥))
-    × (((s : List ℕ) → Bytes s → (read_of s ≡ taken_apart v → ⊥)) → write_answer v out ≡ malformed_record)
+    → (write_answer v out ≡ malformed_record → (s : List ℕ) → Bytes s → (read_of s ≡ Ok v → ⊥))
+    × (((s : List ℕ) → Bytes s → (read_of s ≡ Ok v → ⊥)) → write_answer v out ≡ malformed_record)

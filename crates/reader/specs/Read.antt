@@ -1,7 +1,10 @@
 -- Document 02, item 1: the record at a place of a file, what a record holds, and the bytes of what was read.
 -- Definitions only.
-use Rattle.std.specs.Prelude.{ℕ, ◌+◌, ◌*◌, ◌/◌, ◌%◌, Bool, cond, ◌&&◌, List, [], ◌∷◌, ltb, eqb, length, take, drop, pos, Float}
+use Rattle.std.specs.Prelude.{ℕ, ◌+◌, ◌*◌, ◌/◌, ◌%◌, Bool, cond, ◌&&◌, List, [], ◌∷◌, ltb, eqb, length, take, drop, pos}
+use Rattle.std.specs.Prelude.{Float, Result, Ok, Err}
 use Rattle.binary64.specs.Steps.{nought}
+use Rattle.refusals.specs.declared.Refusal.{Refusal}
+use Rattle.refusals.specs.declared.Refusal.TheVariants.{TornFile, MalformedRecord}
 use Rattle.refusals.specs.Refusals.{short_output, torn_file, no_such_place, malformed_record}
 use Rattle.words.specs.Words.{i64_at, f64_at}
 use Rattle.problem.specs.declared.Altitude.{Altitude}
@@ -9,7 +12,6 @@ use Rattle.problem.specs.declared.Altitude.TheVariants.{None, Barometric, Gnss}
 use Rattle.record.specs.declared.content.Fix.{Fix}
 use Rattle.record.specs.Record.{fix, refusal, stored, record_bytes}
 use Rattle.reader.specs.declared.content.Content.{Content}
-use Rattle.reader.specs.declared.content.Reading.{Reading}
 use Rattle.reader.specs.Rules.{answer_at, detail_at, n_at, mask_at, kind_at}
 use Rattle.reader.specs.Tests.{zeros, good_n, meets_rules}
 
@@ -90,16 +92,17 @@ unfoldable pub content_at : List ℕ → Content
 unfolding fix_at
 content_at s = cond (eqb (answer_at s) 0) (fixed s) (refused (answer_at s) (detail_at s) (n_at s))
 
--- what stands beside a refusal to read means nothing: zeros
-abbrev pub turned_away : ℕ → Reading
-turned_away refusal = record { refusal = refusal; content = refused 0 0 0 }
-
 -- "a length other than 176 is 16", "18 malformed record"
-unfoldable pub read_of : List ℕ → Reading
+unfoldable pub read_of : List ℕ → Result Content Refusal
 read_of s =
     cond (eqb (length s) record_bytes)
-    (cond (meets_rules s) (record { refusal = 0; content = content_at s }) (turned_away malformed_record))
-    (turned_away torn_file)
+    (cond (meets_rules s) (Ok (content_at s)) (Err MalformedRecord))
+    (Err TornFile)
+
+-- what was read; zeros, which mean nothing, where reading was refused
+abbrev pub content_of : Result Content Refusal → Content
+content_of (Ok v) = v
+content_of (Err _) = refused 0 0 0
 
 -- ---- the bytes of what was read
 

@@ -12,10 +12,3 @@ pub struct Content {
     pub altitude: Altitude,
     pub fix: Fix,
 }
-
-// A record taken apart. Where the refusal is not 0, the content means nothing.
-#[derive(Clone, Copy)]
-pub struct Reading {
-    pub refusal: u32,
-    pub content: Content,
-}

@@ -70,12 +70,6 @@ fn fix_at(s: &[u8]) -> Fix
     }
 }
 
-fn wide(x: u8) -> u32
-    ensures { result ≡ x }
-{
-    x as u32
-}
-
 // What the record of a refusal holds.
 pub fn refused(answer: u32, detail: u32, n: u32) -> Content
     ensures { result ≡ reads.refused answer detail n }
@@ -118,7 +112,7 @@ pub fn content_at(s: &[u8]) -> Content
     if answer != 0 {
         return refused(answer, detail, n);
     }
-    let altitude = altitude_of(wide(s[162]), number_at(s, 168));
+    let altitude = altitude_of(s[162] as u32, number_at(s, 168));
     let fix = fix_at(s);
     Content {
         answer: 0,

@@ -1,48 +1,23 @@
 // The rules that a record of 176 bytes meets: document 02, item 1.
-ghost use Rattle.std.specs.Prelude.{◌≡◌, ◌&&◌, ◌||◌, ◌+◌, ◌*◌, ◌≤◌, length};
+ghost use Rattle.std.specs.Prelude.{◌≡◌, ◌+◌, ◌*◌, ◌≤◌, length};
 ghost use Rattle.binary64.specs.Steps.{#, is_finite};
 ghost use Rattle.reader.specs.Tests as tests;
-ghost use Rattle.reader.specs.Read.{read_of};
+ghost use Rattle.std.specs.Result.{result_map_both};
+ghost use Rattle.reader.specs.Read.{read_of, content_at};
+
+use refusals::Refusal;
 
 // The sign bit of an f64, and the bits of infinity.
 const SIGN: u64 = 0x8000_0000_0000_0000;
 
 const INFINITY: u64 = 0x7ff0_0000_0000_0000;
 
-pub fn both(a: bool, b: bool) -> bool
-    ensures { result ≡ (a && b) }
-{
-    if a {
-        return b;
-    }
-    false
-}
-
-fn either(a: bool, b: bool) -> bool
-    ensures { result ≡ (a || b) }
-{
-    if a {
-        return true;
-    }
-    b
-}
-
-fn between(low: u32, high: u32, x: u32) -> bool
-    ensures { result ≡ tests.between low high x }
-{
-    both(low <= x, x <= high)
-}
-
 // Whether the bytes from k on are zero, so many of them.
 pub fn zeros(s: &[u8], k: usize, count: usize) -> bool
     requires { k + count ≤ length s.now }
     ensures { result ≡ tests.zeros s.now k count }
 {
-    let mut good = true;
-    for i in 0..count {
-        good = both(good, s[k + i] == 0);
-    }
-    good
+    s[k..k + count].iter().all(|&b| b == 0)
 }
 
 // Whether the f64 with these bits is finite.
@@ -57,19 +32,16 @@ fn finite(s: &[u8], k: usize, count: usize) -> bool
     requires { k + 8 * count ≤ length s.now }
     ensures { result ≡ tests.finite s.now k count }
 {
-    let mut good = true;
-    for i in 0..count {
-        good = both(good, finite_bits(words::u64_at(s, k + 8 * i)));
-    }
-    good
+    (0..count).all(|i| finite_bits(words::u64_at(s, k + 8 * i)))
 }
 
 fn good_answer(answer: u32) -> bool
     ensures { result ≡ tests.good_answer answer }
 {
-    either(answer <= 13, answer == 15)
+    answer <= 13 || answer == 15
 }
 
+#[tactic(auto, unfolding(crate::specs::Tests::good_detail))]
 fn good_detail(answer: u32, detail: u32) -> bool
     ensures { result ≡ tests.good_detail answer detail }
 {
@@ -77,17 +49,16 @@ fn good_detail(answer: u32, detail: u32) -> bool
         return detail <= 3;
     }
     if answer == 11 {
-        return between(1, 31, detail);
+        return 1 <= detail && detail <= 31;
     }
     if answer == 12 {
-        let reception = detail <= 31;
-        let row = between(100, 131, detail);
-        return either(reception, either(row, detail == 200));
+        return detail <= 31 || 100 <= detail && detail <= 131 || detail == 200;
     }
     detail == 0
 }
 
 // A refusal from 10 on shows no n.
+#[tactic(auto, unfolding(crate::specs::Tests::good_n))]
 pub fn good_n(answer: u32, n: u32) -> bool
     ensures { result ≡ tests.good_n answer n }
 {
@@ -105,6 +76,7 @@ fn good_mask(mask: u32, n: u32) -> bool
 }
 
 // Document 01: dof is the used receptions, plus one with altitude, less 4.
+#[tactic(auto, unfolding(crate::specs::Tests::good_dof))]
 fn good_dof(mask: u32, kind: u8, detail: u32) -> bool
     ensures { result ≡ tests.good_dof mask kind detail }
 {
@@ -117,42 +89,42 @@ fn good_dof(mask: u32, kind: u8, detail: u32) -> bool
 }
 
 // ECEF, the transmit time and the position; the covariance and chi-square; the altitude metres.
+#[tactic(auto, unfolding(crate::specs::Tests::good_floats))]
 fn good_floats(s: &[u8]) -> bool
     requires { length s.now ≡ 176 }
     ensures { result ≡ tests.good_floats s.now }
 {
-    both(finite(s, 16, 7), both(finite(s, 80, 10), finite(s, 168, 1)))
+    finite(s, 16, 7) && finite(s, 80, 10) && finite(s, 168, 1)
 }
 
 // Where there is no altitude, its metres are zero bytes.
+#[tactic(auto, unfolding(crate::specs::Tests::good_metres))]
 fn good_metres(s: &[u8], kind: u8) -> bool
     requires { length s.now ≡ 176 }
     ensures { result ≡ tests.good_metres kind s.now }
 {
-    either(kind != 0, zeros(s, 168, 8))
+    kind != 0 || zeros(s, 168, 8)
 }
 
+#[tactic(auto, unfolding(crate::specs::Tests::good_fix))]
 fn good_fix(s: &[u8]) -> bool
     requires { length s.now ≡ 176 }
     ensures { result ≡ tests.good_fix s.now }
 {
     let n = words::u32_at(s, 8);
-    if 32 < n {
-        return false;
-    }
-    let detail = words::u32_at(s, 4);
     let mask = words::u32_at(s, 12);
-    let version = words::u16_at(s, 160);
     let kind = s[162];
-    let unused = both(zeros(s, 163, 5), good_metres(s, kind));
-    let used = both(
-        good_mask(mask, n),
-        both(good_dof(mask, kind, detail), unused),
-    );
-    let numbers = both(good_floats(s), used);
-    both(version == 8, both(kind <= 2, numbers))
+    n <= 32
+        && words::u16_at(s, 160) == 8
+        && kind <= 2
+        && good_floats(s)
+        && good_mask(mask, n)
+        && good_dof(mask, kind, words::u32_at(s, 4))
+        && zeros(s, 163, 5)
+        && good_metres(s, kind)
 }
 
+#[tactic(auto, unfolding(crate::specs::Tests::good_refusal))]
 fn good_refusal(s: &[u8]) -> bool
     requires { length s.now ≡ 176 }
     ensures { result ≡ tests.good_refusal s.now }
@@ -160,14 +132,11 @@ fn good_refusal(s: &[u8]) -> bool
     let answer = words::u32_at(s, 0);
     let detail = words::u32_at(s, 4);
     let n = words::u32_at(s, 8);
-    let unused = both(good_n(answer, n), zeros(s, 12, 164));
-    both(
-        good_answer(answer),
-        both(good_detail(answer, detail), unused),
-    )
+    good_answer(answer) && good_detail(answer, detail) && good_n(answer, n) && zeros(s, 12, 164)
 }
 
 // Whether a record meets the rules.
+#[tactic(auto, unfolding(crate::specs::Tests::meets_rules))]
 pub fn meets_rules(s: &[u8]) -> bool
     requires { length s.now ≡ 176 }
     ensures { result ≡ tests.meets_rules s.now }
@@ -178,15 +147,17 @@ pub fn meets_rules(s: &[u8]) -> bool
     good_refusal(s)
 }
 
-// Why a record is not taken apart: 16 where it is not 176 bytes long, 18 where it breaks a rule. 0 where it is.
-pub fn record_refusal(bytes: &[u8]) -> u32
-    ensures { result ≡ (read_of bytes.now).refusal }
+// Why a record is not taken apart: 16 where it is not 176 bytes long, 18 where it breaks a rule.
+#[tactic(auto, unfolding(crate::specs::Read::read_of))]
+pub fn check(bytes: &[u8]) -> Result<(), Refusal>
+    ensures { read_of bytes.now
+        ≡ result_map_both (λ _. content_at bytes.now) (λ why. why) result }
 {
     if bytes.len() != 176 {
-        return refusals::TORN_FILE;
+        return Err(Refusal::TornFile);
     }
     if !meets_rules(bytes) {
-        return refusals::MALFORMED_RECORD;
+        return Err(Refusal::MalformedRecord);
     }
-    0
+    Ok(())
 }

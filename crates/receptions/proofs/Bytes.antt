@@ -1,29 +1,18 @@
 -- Bytes compared place by place: where two lists first differ, and where they never do; and 32 bytes of a file. Assumes nothing.
-use Prim.Native.Nat.{ℕ, zero, suc, ◌+◌, ◌<◌, ◌≤◌}
+use Prim.Native.Nat.{ℕ, zero, suc, ◌<◌}
 use mathlib.Core.Path.{◌≡◌, refl, sym, subst, ◌∙◌}
 use mathlib.Core.Logic.{◌⊎◌, inl, inr}
 use mathlib.Core.List.{List, [], ◌∷◌}
 use native.Mathlib.Omega.{arith}
-use native.Mathlib.Nat.{eq-or-lt_of_le}
-use lib.ListN.{get_or, length, drop, replicate, length-drop}
-use lib.Seq.{ext_get_or, get_or-take, get_or-drop, length-take-le}
-use Rattle.receptions.specs.declared.identity.Ordering.{Ordering}
-use Rattle.receptions.specs.declared.identity.Ordering.TheVariants.{Less, Equal, Greater}
-use Rattle.receptions.specs.Receptions.{part_at, fill_to}
+use lib.ListN.{get_or, length}
+use Rattle.std.specs.declared.cmp.Ordering.{Ordering}
+use Rattle.std.specs.declared.cmp.Ordering.TheVariants.{Less, Equal, Greater}
 use Rattle.receptions.specs.Identities.{in_turn, compare_numbers, compare_bytes}
 use Rattle.receptions.specs.Meaning.{BytesLess}
-use Rattle.receptions.proofs.Filling.{fill-at, fill-length}
-use Rattle.receptions.proofs.Ordered.{turn-less, numbers-lt, lt-numbers, numbers-ordered, bytes-ordered}
+use Rattle.receptions.proofs.Ordered.{turn-less, numbers-lt, lt-numbers, numbers-ordered}
 
 abbrev pub Agree : List ℕ → List ℕ → ℕ → Type 0
 Agree xs ys k = (j : ℕ) → j < k → get_or xs j 0 ≡ get_or ys j 0
-
-pub agree-next : (xs ys : List ℕ) (k : ℕ) → Agree xs ys k → get_or xs k 0 ≡ get_or ys k 0 → Agree xs ys (k + 1)
-agree-next xs ys k a e j h = go (eq-or-lt_of_le (let q : j ≤ k = omega (arith, h) in q))
-  where
-    go : (j ≡ k) ⊎ (j < k) → get_or xs j 0 ≡ get_or ys j 0
-    go (inl q) = rw q e
-    go (inr q) = a j q
 
 equal-in-turn : (x y : ℕ) (p : Ordering) → x ≡ y → in_turn (compare_numbers x y) p ≡ p
 equal-in-turn x y p e = rw (subst (λ (z : ℕ). compare_numbers x z ≡ Equal) e (numbers-ordered.self x))
@@ -44,9 +33,6 @@ bytes-differ (x ∷ xs) (y ∷ ys) zero l m a ne = go (compare_numbers x y) refl
 bytes-differ (x ∷ xs) (y ∷ ys) (suc k) l m a ne =
     bytes-differ xs ys k (omega (arith, l)) (omega (arith, m)) (λ j h. a (suc j) (omega (arith, h))) ne
     ∙ sym (equal-in-turn x y (compare_bytes xs ys) (a 0 (omega arith)))
-
-pub bytes-alike : (xs ys : List ℕ) → length xs ≡ length ys → Agree xs ys (length xs) → Equal ≡ compare_bytes xs ys
-bytes-alike xs ys l a = sym (subst (λ (zs : List ℕ). compare_bytes xs zs ≡ Equal) (ext_get_or 0 xs ys l a) (bytes-ordered.self xs))
 
 -- the first place where they differ, of as many
 abbrev Decides : List ℕ → List ℕ → ℕ → Type 0
@@ -78,20 +64,3 @@ module _ (xs ys : List ℕ) (l : length xs ≡ 32) (m : length ys ≡ 32) where
   less-meant r =
       sym (bytes-differ xs ys r.0 (omega (arith, r.1.0, l)) (omega (arith, r.1.0, m)) r.1.1 (λ e. omega (arith, e, r.1.2)))
       ∙ lt-numbers (get_or xs r.0 0) (get_or ys r.0 0) r.1.2
-
--- 32 bytes from byte k on, one by one
-pub part_filled : (s : List ℕ) (k : ℕ) → k + 32 ≤ length s → fill_to (replicate 32 0) (λ j. get_or s (k + j) 0) 32 ≡ part_at s k
-unfolding part_at
-part_filled s k h =
-    ext_get_or 0 _ (part_at s k) (len ∙ sym long)
-    (λ i l. fill-at (replicate 32 0) (λ j. get_or s (k + j) 0) 32 i 0 (omega (arith, l, len)) (omega (arith, l, len, room))
-    ∙ sym (get_or-take 32 (drop k s) i 0 (omega (arith, l, len)) ∙ get_or-drop k s i 0))
-  where
-    room : length {A = ℕ} (replicate 32 0) ≡ 32
-    room = refl
-
-    len : length (fill_to (replicate 32 0) (λ j. get_or s (k + j) 0) 32) ≡ 32
-    len = fill-length (replicate 32 0) (λ j. get_or s (k + j) 0) 32
-
-    long : length (part_at s k) ≡ 32
-    long = length-take-le 32 (drop k s) (rw length-drop (omega (arith, h)))

@@ -2,5 +2,6 @@
 pub mod Filling
 pub mod Unpacked
 pub mod Ordered
+pub mod Derived
 pub mod Bytes
 pub mod Meaning

@@ -8,8 +8,8 @@ use native.Mathlib.Omega.{arith}
 use borrow.Author.Tests.{ltb-true, ltb-false, lt-ltb, le-ltb}
 use lib.Dec.{ltb}
 use Rattle.receptions.specs.declared.ObservationId.{ObservationId}
-use Rattle.receptions.specs.declared.identity.Ordering.{Ordering}
-use Rattle.receptions.specs.declared.identity.Ordering.TheVariants.{Less, Equal, Greater}
+use Rattle.std.specs.declared.cmp.Ordering.{Ordering}
+use Rattle.std.specs.declared.cmp.Ordering.TheVariants.{Less, Equal, Greater}
 use Rattle.receptions.specs.Identities.{in_turn, compare_numbers, compare_bytes, compare, is_less, before}
 
 pub record Ordered {A : Type 0} (c : A → A → Ordering) : Type 0 where
@@ -79,7 +79,7 @@ numbers-lt a b e = go (ltb a b) (ltb b a) refl e
     go false true h e = absurd (let z : ◌≡◌ {A = ℕ} 0 1 = cc in omega arith)
     go false false h e = absurd (let z : ◌≡◌ {A = ℕ} 0 1 = cc in omega arith)
 
-numbers-gt : (a b : ℕ) → compare_numbers a b ≡ Greater → b < a
+pub numbers-gt : (a b : ℕ) → compare_numbers a b ≡ Greater → b < a
 unfolding compare_numbers
 numbers-gt a b e = go (ltb a b) (ltb b a) refl e
   where
@@ -88,7 +88,7 @@ numbers-gt a b e = go (ltb a b) (ltb b a) refl e
     go false true h e = ltb-true b a h
     go false false h e = absurd (let z : ◌≡◌ {A = ℕ} 0 1 = cc in omega arith)
 
-numbers-eq : (a b : ℕ) → compare_numbers a b ≡ Equal → a ≡ b
+pub numbers-eq : (a b : ℕ) → compare_numbers a b ≡ Equal → a ≡ b
 unfolding compare_numbers
 numbers-eq a b e = go (ltb a b) (ltb b a) refl refl e
   where
@@ -100,10 +100,6 @@ numbers-eq a b e = go (ltb a b) (ltb b a) refl refl e
 pub lt-numbers : (a b : ℕ) → a < b → compare_numbers a b ≡ Less
 unfolding compare_numbers
 lt-numbers a b h = rw (lt-ltb a b h)
-
-pub gt-numbers : (a b : ℕ) → b < a → compare_numbers a b ≡ Greater
-unfolding compare_numbers
-gt-numbers a b h = rw (le-ltb a b (omega (arith, h)), lt-ltb b a h)
 
 pub eq-numbers : (a b : ℕ) → b ≤ a → a ≤ b → compare_numbers a b ≡ Equal
 unfolding compare_numbers

@@ -1,41 +1,26 @@
 -- Receptions in a list that is being filled and in arrays by field: one more, and what the arrays hold. Assumes nothing.
 use Prim.Native.Nat.{ℕ, zero, suc, ◌+◌, ◌*◌, ◌/◌, ◌%◌, ◌^◌, ◌<◌, ◌≤◌}
-use mathlib.Core.Path.{◌≡◌, refl, sym, subst, ◌∙◌, ap}
-use mathlib.Core.Bool.{Bool, cond, ◌&&◌, ◌||◌}
-use mathlib.Core.Logic.{◌⊎◌, inl, inr}
-use mathlib.Core.List.{List}
+use mathlib.Core.Path.{◌≡◌, refl, ◌∙◌, ap}
+use mathlib.Core.Bool.{Bool, true, false, cond, ◌&&◌, ◌||◌}
 use native.Mathlib.Omega.{arith}
-use native.Mathlib.Nat.{eq-or-lt_of_le}
+use native.Mathlib.Nat.{pow-suc}
 use native.Mathlib.Numerals.{add-one}
 use borrow.Author.Tests.{lt-ltb}
 use lib.Dec.{eqb, ltb, ltb→lt, eqb-suc-zero}
-use lib.ListN.{get_or, set, length, length-set, replicate, length-replicate}
+use lib.ListN.{get_or, set, replicate, length-replicate}
 use lib.IntN.{pos}
 use lib.Ieee.{nan}
-use lib.Seq.{get_or-set_same, get_or-set_other}
 use Rattle.sets.specs.Sets.{Subset}
 use Rattle.sets.specs.Mask.{has, mask_of}
 use Rattle.sets.proofs.Tests.{and_l}
-use Rattle.sets.proofs.Masks.{mask-same, mask_lt, set-of-mask}
+use Rattle.sets.proofs.Masks.{mask-same, set-of-mask}
 use Rattle.receptions.specs.declared.ObservationId.{ObservationId}
 use Rattle.receptions.specs.declared.Reception.{Reception}
 use Rattle.receptions.specs.declared.Fields.{Fields}
 use Rattle.receptions.specs.Identities.{before, ascends}
-use Rattle.receptions.specs.Receptions.{no_reception, listed_at, wholes, floats, fields_of}
+use Rattle.receptions.specs.Receptions.{wholes, floats, fields_of}
 use Rattle.receptions.specs.Held.{blank_id, site_in}
-use Rattle.receptions.proofs.Filling.{fill-next, fill-three, fill-at, fill-same}
-
--- a list of 32 begins with the first i receptions
-abbrev pub Begins : (ℕ → Reception) → ℕ → List Reception → Type 0
-Begins at i list = (length list ≡ 32) × ((k : ℕ) → k < i → listed_at list k ≡ at k)
-
-pub begins-next : (at : ℕ → Reception) (i : ℕ) (list : List Reception) {r : Reception} → Begins at i list → i < 32 → r ≡ at i
-    → Begins at (i + 1) (set list i r)
-begins-next at i list {r} b l e = (length-set list i r ∙ b.0, λ k h. go k (eq-or-lt_of_le (let q : k ≤ i = omega arith in q)))
-  where
-    go : (k : ℕ) → (k ≡ i) ⊎ (k < i) → listed_at (set list i r) k ≡ at k
-    go k (inl q) = rw (q, e) (get_or-set_same list i (at i) no_reception (let m = b.0 in omega arith))
-    go k (inr q) = get_or-set_other list i k r no_reception (λ w. omega arith) ∙ b.1 k q
+use Rattle.receptions.proofs.Filling.{fill-next, fill-three, fill-at}
 
 -- ---- the bits of the identities' order
 
@@ -64,10 +49,10 @@ mask-at S n i h =
     ∙ ap (λ (R : Subset). R i) (set-of-mask below n (λ j t. ltb→lt j n (and_l (ltb j n) (S j) t)))
     ∙ rw (lt-ltb i n h)
 
--- the bits so far leave room for the next
-pub bits-lt : (at : ℕ → Reception) (i : ℕ) {f : Fields} → f ≡ fields_of at i → f.ascending < 2 ^ i
-unfolding fields_of
-bits-lt at i e = subst (λ (g : Fields). g.ascending < 2 ^ i) (sym e) (mask_lt (ascends (λ k. (at k).id)) i)
+-- the bits with one more stay below the next power
+pub bits-more : (above : Bool) (i : ℕ) {bits a : ℕ} → bits < 2 ^ i → a ≡ cond above 1 0 * 2 ^ i + bits → a < 2 ^ (i + 1)
+bits-more true i h e = rw add-one (omega (arith, h, e, pow-suc 2 i))
+bits-more false i h e = rw add-one (omega (arith, h, e, pow-suc 2 i))
 
 -- ---- one reception more
 
@@ -110,24 +95,6 @@ module _ (at : ℕ → Reception) (i : ℕ) {f : Fields} {r : Reception} (e : f 
       )
 
 -- ---- the same receptions have the same fields
-
-ascends_same : (p q : ℕ → Reception) (n : ℕ) → ((i : ℕ) → i < n → p i ≡ q i) → (i : ℕ) → i < n → ascends (λ k. (p k).id) i ≡ ascends (λ k. (q k).id) i
-unfolding ascends
-ascends_same p q n same zero h = refl
-ascends_same p q n same (suc i) h = rw (same i (omega arith), same (suc i) h)
-
-pub fields-same : (p q : ℕ → Reception) (n : ℕ) → ((i : ℕ) → i < n → p i ≡ q i) → fields_of p n ≡ fields_of q n
-unfolding fields_of
-fields-same p q n same =
-    rw (
-      mask-same (ascends (λ k. (p k).id)) (ascends (λ k. (q k).id)) n (ascends_same p q n same),
-      fill-same (wholes 32) (λ i. (p i).time) (λ i. (q i).time) n (λ i l. ap (λ (r : Reception). r.time) (same i l)),
-      fill-same (wholes 96) (λ k. get_or (p (k / 3)).site_mm (k % 3) (pos 0)) (λ k. get_or (q (k / 3)).site_mm (k % 3) (pos 0)) (3 * n)
-          (λ k l. ap (λ (r : Reception). get_or r.site_mm (k % 3) (pos 0)) (same (k / 3) (omega arith))),
-      fill-same (floats 32) (λ i. (p i).z) (λ i. (q i).z) n (λ i l. ap (λ (r : Reception). r.z) (same i l)),
-      fill-same (floats 32) (λ i. (p i).noise_m2) (λ i. (q i).noise_m2) n (λ i l. ap (λ (r : Reception). r.noise_m2) (same i l)),
-      fill-same (replicate 32 0) (λ i. (p i).filler) (λ i. (q i).filler) n (λ i l. ap (λ (r : Reception). r.filler) (same i l)),
-    )
 
 -- ---- what the fields hold of reception i
 

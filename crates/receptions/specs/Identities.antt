@@ -2,8 +2,8 @@
 -- the first." Definitions only; specs/Meaning.antt says what they mean.
 use Rattle.std.specs.Prelude.{Bool, true, false, cond, List, [], ◌∷◌, ℕ, zero, suc, ltb}
 use Rattle.receptions.specs.declared.ObservationId.{ObservationId}
-use Rattle.receptions.specs.declared.identity.Ordering.{Ordering}
-use Rattle.receptions.specs.declared.identity.Ordering.TheVariants.{Less, Equal, Greater}
+use Rattle.std.specs.declared.cmp.Ordering.{Ordering}
+use Rattle.std.specs.declared.cmp.Ordering.TheVariants.{Less, Equal, Greater}
 
 -- "in turn": the first that is not equal
 abbrev pub in_turn : Ordering → Ordering → Ordering

@@ -3,7 +3,8 @@
 
 mod identity;
 
-ghost use Rattle.std.specs.Prelude.{◌≡◌, cond, ◌+◌, ◌*◌, ◌^◌, ◌<◌, ◌≤◌, pos, length, set, get_or};
+ghost use Rattle.std.specs.Prelude.{◌≡◌, cond, ℕ, ◌+◌, ◌*◌, ◌^◌, ◌<◌, ◌≤◌, pos, length, set, get_or};
+ghost use Rattle.receptions.specs.declared.Reception as reception;
 ghost use Rattle.receptions.specs.Receptions.{reception_bytes, part_at, id_at, reception_at};
 ghost use Rattle.receptions.specs.Held.{blank_id};
 ghost use Rattle.receptions.specs.Receptions.{listed_at, fields_of};
@@ -12,7 +13,7 @@ use identity::ascends;
 
 // `ObservationId` of the source: which message, at which receiver.
 #[repr(C)]
-#[derive(Clone, Copy)]
+#[derive(Clone, Copy, PartialEq, Eq, PartialOrd, Ord)]
 pub struct ObservationId {
     pub receiver: [u8; 32],
     pub epoch: u32,
@@ -63,23 +64,6 @@ fn blank_id() -> ObservationId
     }
 }
 
-// Room for every reception.
-fn blank() -> [Reception; 32]
-    ensures { length result ≡ 32 }
-{
-    let id = blank_id();
-    let site = [0i64; 3];
-    let r = Reception {
-        id,
-        time: 0,
-        site_mm: site,
-        z: 0.0,
-        noise_m2: 0.0,
-        filler: 0,
-    };
-    [r; 32]
-}
-
 fn put_site(out: &mut [i64; 96], i: usize, site: [i64; 3])
     requires { i < 32 }
     ensures { out.new ≡ set (set (set out.old (3 * i) (get_or site 0 (pos 0))) (3 * i + 1)
@@ -102,10 +86,12 @@ fn marked(bits: u32, i: usize, above: bool) -> u32
     bits
 }
 
-// The first n receptions of a list, by field.
-fn by_field(list: [Reception; 32], n: usize) -> Fields
-    requires { n ≤ 32 }
-    ensures { result ≡ fields_of (listed_at list) n }
+// The first n receptions, by field: `at` gives each.
+fn by_field<F: Fn(usize) -> Reception>(n: usize, at: F) -> Fields
+    requires n_bound { n ≤ 32 }
+    requires callable { (i : ℕ) → i < n → F.pre at i }
+    ensures { (f : ℕ → reception.Reception) → ((i : ℕ) (r : reception.Reception) → i < n → F.post at i r → r ≡ f i)
+        → result ≡ fields_of f n }
 {
     let mut last = blank_id();
     let mut ascending = 0u32;
@@ -115,17 +101,14 @@ fn by_field(list: [Reception; 32], n: usize) -> Fields
     let mut noise_m2 = [0.0; 32];
     let mut filler = [0u64; 32];
     for i in 0..n {
-        let item = list[i];
-        let who = item.id;
-        let when = item.time;
-        let place = item.site_mm;
-        ascending = marked(ascending, i, ascends(last, who, i));
-        last = who;
-        time[i] = when;
-        put_site(&mut site_mm, i, place);
-        z[i] = item.z;
-        noise_m2[i] = item.noise_m2;
-        filler[i] = item.filler;
+        let r = at(i);
+        ascending = marked(ascending, i, ascends(last, r.id, i));
+        last = r.id;
+        time[i] = r.time;
+        put_site(&mut site_mm, i, r.site_mm);
+        z[i] = r.z;
+        noise_m2[i] = r.noise_m2;
+        filler[i] = r.filler;
     }
     Fields {
         ascending,
@@ -143,9 +126,7 @@ fn part_at(s: &[u8], k: usize) -> [u8; 32]
     ensures { result ≡ part_at s.now k }
 {
     let mut out = [0u8; 32];
-    for j in 0..32 {
-        out[j] = s[k + j];
-    }
+    out.copy_from_slice(&s[k..k + 32]);
     out
 }
 
@@ -188,34 +169,7 @@ pub fn of_bytes(receptions: &[u8], n: usize) -> Fields
     requires { (reception_bytes * n ≤ length receptions.now) × (n ≤ 32) }
     ensures { result ≡ fields_of (reception_at receptions.now) n }
 {
-    let mut last = blank_id();
-    let mut ascending = 0u32;
-    let mut time = [0i64; 32];
-    let mut site_mm = [0i64; 96];
-    let mut z = [0.0; 32];
-    let mut noise_m2 = [0.0; 32];
-    let mut filler = [0u64; 32];
-    for i in 0..n {
-        let r = reception_at(receptions, i);
-        let id = r.id;
-        let t = r.time;
-        let site = r.site_mm;
-        ascending = marked(ascending, i, ascends(last, id, i));
-        last = id;
-        time[i] = t;
-        put_site(&mut site_mm, i, site);
-        z[i] = r.z;
-        noise_m2[i] = r.noise_m2;
-        filler[i] = r.filler;
-    }
-    Fields {
-        ascending,
-        time,
-        site_mm,
-        z,
-        noise_m2,
-        filler,
-    }
+    by_field(n, |i| reception_at(receptions, i))
 }
 
 // The first n receptions of a caller's list.
@@ -223,9 +177,5 @@ pub fn of_list(receptions: &[Reception], n: usize) -> Fields
     requires { (n ≤ length receptions.now) × (n ≤ 32) }
     ensures { result ≡ fields_of (listed_at receptions.now) n }
 {
-    let mut list = blank();
-    for k in 0..n {
-        list[k] = receptions[k];
-    }
-    by_field(list, n)
+    by_field(n, |i| receptions[i])
 }

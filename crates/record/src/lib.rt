@@ -5,7 +5,6 @@
 mod content;
 
 ghost use Rattle.std.specs.Prelude.{◌≡◌, ◌≤◌, length};
-ghost use Rattle.words.specs.Words.{put_u32, put_i64, put_f64};
 ghost use Rattle.record.specs.Record.{put_three, written, head, kind, metres, foot, refusal, fix, stored};
 
 pub use content::Fix;
@@ -23,36 +22,14 @@ fn put_head(r: &mut [u8; 176], answer: u32, detail: u32, n: u32)
     words::put_u32(r, 8, n);
 }
 
-// The stores of words, in an array that has room for them.
-fn put_u32(r: &mut [u8; 176], k: usize, x: u32)
-    requires { k ≤ 172 }
-    ensures { r.new ≡ put_u32 r.old k x }
-{
-    words::put_u32(r, k, x);
-}
-
-fn put_f64(r: &mut [u8; 176], k: usize, x: f64)
-    requires { k ≤ 168 }
-    ensures { r.new ≡ put_f64 r.old k x }
-{
-    words::put_f64(r, k, x);
-}
-
-fn put_i64(r: &mut [u8; 176], k: usize, x: i64)
-    requires { k ≤ 168 }
-    ensures { r.new ≡ put_i64 r.old k x }
-{
-    words::put_i64(r, k, x);
-}
-
 // Three numbers, one after the other.
 fn put_three(r: &mut [u8; 176], k: usize, v: [f64; 3])
     requires { k ≤ 152 }
     ensures { r.new ≡ put_three r.old k v }
 {
-    put_f64(r, k, v[0]);
-    put_f64(r, k + 8, v[1]);
-    put_f64(r, k + 16, v[2]);
+    words::put_f64(r, k, v[0]);
+    words::put_f64(r, k + 8, v[1]);
+    words::put_f64(r, k + 16, v[2]);
 }
 
 // The number of the altitude's kind.
@@ -97,17 +74,17 @@ pub fn fix(n: u32, altitude: Altitude, shown: Fix) -> [u8; 176]
     let r2 = shown.r2;
     let mut r = [0u8; 176];
     put_head(&mut r, 0, shown.dof, n);
-    put_u32(&mut r, 12, shown.mask);
+    words::put_u32(&mut r, 12, shown.mask);
     put_three(&mut r, 16, ecef);
-    put_f64(&mut r, 40, shown.t);
-    put_f64(&mut r, 48, position.lat_deg);
-    put_f64(&mut r, 56, position.lon_deg);
-    put_f64(&mut r, 64, position.height_m);
-    put_i64(&mut r, 72, shown.transmit_ps);
+    words::put_f64(&mut r, 40, shown.t);
+    words::put_f64(&mut r, 48, position.lat_deg);
+    words::put_f64(&mut r, 56, position.lon_deg);
+    words::put_f64(&mut r, 64, position.height_m);
+    words::put_i64(&mut r, 72, shown.transmit_ps);
     put_three(&mut r, 80, r0);
     put_three(&mut r, 104, r1);
     put_three(&mut r, 128, r2);
-    put_f64(&mut r, 152, shown.chi2);
+    words::put_f64(&mut r, 152, shown.chi2);
     put_foot(&mut r, altitude);
     r
 }
@@ -130,7 +107,5 @@ pub fn store(out: &mut [u8], bytes: [u8; 176])
     requires { 176 ≤ length out.old }
     ensures { out.new ≡ stored out.old bytes }
 {
-    for i in 0usize..176 {
-        out[i] = bytes[i];
-    }
+    out[..176].copy_from_slice(&bytes);
 }

@@ -1,7 +1,13 @@
 -- Why a call gives nothing: one list for the whole repository, the number and the name of each refusal. Document 01,
 -- 'When there is no fix', has 1 to 15, and document 02 16 to 24; 0 is a fix or a call that was answered. Definitions
 -- only.
-use Rattle.std.specs.Prelude.{ℕ}
+use Rattle.std.specs.Prelude.{ℕ, Result, Ok, Err}
+use Rattle.refusals.specs.declared.Refusal.{Refusal}
+use Rattle.refusals.specs.declared.Refusal.TheVariants.{TooFew, NoConvergence, OutOfRange, NoFixedPoint, Inconsistent}
+use Rattle.refusals.specs.declared.Refusal.TheVariants.{Singular, Uncovered, Ambiguous, Uncertain, TooMany, Disorder}
+use Rattle.refusals.specs.declared.Refusal.TheVariants.{BadField, ClockSize, ShortOutput, TornInput, TornFile}
+use Rattle.refusals.specs.declared.Refusal.TheVariants.{NoSuchPlace, MalformedRecord, BeyondTheWire, UnequalMirror}
+use Rattle.refusals.specs.declared.Refusal.TheVariants.{WrongSize, BadQuery, BeyondTheItems, OverSix}
 
 -- ---- document 01
 
@@ -102,3 +108,36 @@ beyond_the_items = 23
 -- over six: more than six receptions
 abbrev pub over_six : ℕ
 over_six = 24
+
+-- ---- the number of each
+
+abbrev pub number_of : Refusal → ℕ
+number_of TooFew = too_few
+number_of NoConvergence = no_convergence
+number_of OutOfRange = out_of_range
+number_of NoFixedPoint = no_fixed_point
+number_of Inconsistent = inconsistent
+number_of Singular = singular
+number_of Uncovered = uncovered
+number_of Ambiguous = ambiguous
+number_of Uncertain = uncertain
+number_of TooMany = too_many
+number_of Disorder = disorder
+number_of BadField = bad_field
+number_of ClockSize = clock_size
+number_of ShortOutput = short_output
+number_of TornInput = torn_input
+number_of TornFile = torn_file
+number_of NoSuchPlace = no_such_place
+number_of MalformedRecord = malformed_record
+number_of BeyondTheWire = beyond_the_wire
+number_of UnequalMirror = unequal_mirror
+number_of WrongSize = wrong_size
+number_of BadQuery = bad_query
+number_of BeyondTheItems = beyond_the_items
+number_of OverSix = over_six
+
+-- a call's answer number
+abbrev pub answer_of : {A : Type 0} → Result A Refusal → ℕ
+answer_of (Ok _) = 0
+answer_of (Err why) = number_of why

@@ -2,51 +2,135 @@
 // 'When there is no fix', has 1 to 15, and document 02 16 to 24; 0 is a fix or a call that was answered.
 #![tactic(auto)]
 
-// too few: fewer included than 4 (3 with altitude)
-pub const TOO_FEW: u32 = 1;
-// no convergence: no start converges
-pub const NO_CONVERGENCE: u32 = 2;
-// out of range: some converge, none plausible; or the transmit time leaves i64
-pub const OUT_OF_RANGE: u32 = 3;
-// no fixed point: 2s + 2 rounds all made a change
-pub const NO_FIXED_POINT: u32 = 4;
-// inconsistent: chi2 above `published_chi2_limit`
-pub const INCONSISTENT: u32 = 5;
-// singular: a Cholesky fails, or a kept reception's normalised residual is not a number
-pub const SINGULAR: u32 = 6;
-// uncovered: no clock covariance
-pub const UNCOVERED: u32 = 7;
-// ambiguous: `best_fit`'s rule
-pub const AMBIGUOUS: u32 = 8;
-// uncertain: a variance above 1,500², or the 3 × 3 Cholesky fails
-pub const UNCERTAIN: u32 = 9;
-// too many: over 32 receptions
-pub const TOO_MANY: u32 = 10;
-// disorder: identity not above the one before
-pub const DISORDER: u32 = 11;
-// bad field: outside the domain, or a non-zero filler
-pub const BAD_FIELD: u32 = 12;
-// clock size: `clock.bin` present, not 8n² bytes
-pub const CLOCK_SIZE: u32 = 13;
-// short output: less is lent than is written
-pub const SHORT_OUTPUT: u32 = 14;
-// torn input: an input that is not whole entries
-pub const TORN_INPUT: u32 = 15;
-// torn file: a file that is not whole records, or a record of another length
-pub const TORN_FILE: u32 = 16;
-// no such place: the file ends before that place
-pub const NO_SUCH_PLACE: u32 = 17;
-// malformed record: a record that the rules don't allow
-pub const MALFORMED_RECORD: u32 = 18;
-// beyond the wire: no fix, or a position outside the wire's limits
-pub const BEYOND_THE_WIRE: u32 = 19;
-// unequal mirror: mirrored covariance entries differ
-pub const UNEQUAL_MIRROR: u32 = 20;
-// wrong size: size or width over 32, or a length that does not match
-pub const WRONG_SIZE: u32 = 21;
-// bad query: radius or point not finite or too large, radius negative
-pub const BAD_QUERY: u32 = 22;
-// beyond the items: a place or a height outside ASTERIX's items, or a length other than ten
-pub const BEYOND_THE_ITEMS: u32 = 23;
-// over six: more than six receptions
-pub const OVER_SIX: u32 = 24;
+ghost use Rattle.std.specs.Prelude.{◌≡◌};
+ghost use Rattle.refusals.specs.Refusals as refusals;
+
+use std::fmt;
+
+#[derive(Clone, Copy, Debug, PartialEq, Eq)]
+pub enum Refusal {
+    // too few: fewer included than 4 (3 with altitude)
+    TooFew,
+    // no convergence: no start converges
+    NoConvergence,
+    // out of range: some converge, none plausible; or the transmit time leaves i64
+    OutOfRange,
+    // no fixed point: 2s + 2 rounds all made a change
+    NoFixedPoint,
+    // inconsistent: chi2 above `published_chi2_limit`
+    Inconsistent,
+    // singular: a Cholesky fails, or a kept reception's normalised residual is not a number
+    Singular,
+    // uncovered: no clock covariance
+    Uncovered,
+    // ambiguous: `best_fit`'s rule
+    Ambiguous,
+    // uncertain: a variance above 1,500², or the 3 × 3 Cholesky fails
+    Uncertain,
+    // too many: over 32 receptions
+    TooMany,
+    // disorder: identity not above the one before
+    Disorder,
+    // bad field: outside the domain, or a non-zero filler
+    BadField,
+    // clock size: `clock.bin` present, not 8n² bytes
+    ClockSize,
+    // short output: less is lent than is written
+    ShortOutput,
+    // torn input: an input that is not whole entries
+    TornInput,
+    // torn file: a file that is not whole records, or a record of another length
+    TornFile,
+    // no such place: the file ends before that place
+    NoSuchPlace,
+    // malformed record: a record that the rules don't allow
+    MalformedRecord,
+    // beyond the wire: no fix, or a position outside the wire's limits
+    BeyondTheWire,
+    // unequal mirror: mirrored covariance entries differ
+    UnequalMirror,
+    // wrong size: size or width over 32, or a length that does not match
+    WrongSize,
+    // bad query: radius or point not finite or too large, radius negative
+    BadQuery,
+    // beyond the items: a place or a height outside ASTERIX's items, or a length other than ten
+    BeyondTheItems,
+    // over six: more than six receptions
+    OverSix,
+}
+
+impl Refusal {
+    // Its number in the documents.
+    pub fn number(self) -> u32
+        ensures { result ≡ refusals.number_of self }
+    {
+        match self {
+            Refusal::TooFew => 1,
+            Refusal::NoConvergence => 2,
+            Refusal::OutOfRange => 3,
+            Refusal::NoFixedPoint => 4,
+            Refusal::Inconsistent => 5,
+            Refusal::Singular => 6,
+            Refusal::Uncovered => 7,
+            Refusal::Ambiguous => 8,
+            Refusal::Uncertain => 9,
+            Refusal::TooMany => 10,
+            Refusal::Disorder => 11,
+            Refusal::BadField => 12,
+            Refusal::ClockSize => 13,
+            Refusal::ShortOutput => 14,
+            Refusal::TornInput => 15,
+            Refusal::TornFile => 16,
+            Refusal::NoSuchPlace => 17,
+            Refusal::MalformedRecord => 18,
+            Refusal::BeyondTheWire => 19,
+            Refusal::UnequalMirror => 20,
+            Refusal::WrongSize => 21,
+            Refusal::BadQuery => 22,
+            Refusal::BeyondTheItems => 23,
+            Refusal::OverSix => 24,
+        }
+    }
+}
+
+// The name that lists of records show.
+impl fmt::Display for Refusal {
+    fn fmt<W: fmt::Write>(&self, f: &mut fmt::Formatter<W>) -> fmt::Result {
+        f.write_str(match self {
+            Refusal::TooFew => "TOO_FEW",
+            Refusal::NoConvergence => "NO_CONVERGENCE",
+            Refusal::OutOfRange => "OUT_OF_RANGE",
+            Refusal::NoFixedPoint => "NO_FIXED_POINT",
+            Refusal::Inconsistent => "INCONSISTENT",
+            Refusal::Singular => "SINGULAR",
+            Refusal::Uncovered => "UNCOVERED",
+            Refusal::Ambiguous => "AMBIGUOUS",
+            Refusal::Uncertain => "UNCERTAIN",
+            Refusal::TooMany => "TOO_MANY",
+            Refusal::Disorder => "DISORDER",
+            Refusal::BadField => "BAD_FIELD",
+            Refusal::ClockSize => "CLOCK_SIZE",
+            Refusal::ShortOutput => "SHORT_OUTPUT",
+            Refusal::TornInput => "TORN_INPUT",
+            Refusal::TornFile => "TORN_FILE",
+            Refusal::NoSuchPlace => "NO_SUCH_PLACE",
+            Refusal::MalformedRecord => "MALFORMED_RECORD",
+            Refusal::BeyondTheWire => "BEYOND_THE_WIRE",
+            Refusal::UnequalMirror => "UNEQUAL_MIRROR",
+            Refusal::WrongSize => "WRONG_SIZE",
+            Refusal::BadQuery => "BAD_QUERY",
+            Refusal::BeyondTheItems => "BEYOND_THE_ITEMS",
+            Refusal::OverSix => "OVER_SIX",
+        })
+    }
+}
+
+// The answer number of a call: 0 where it is answered, and else its refusal's number.
+pub fn answer<T: Drop>(outcome: Result<T, Refusal>) -> u32
+    ensures { result ≡ refusals.answer_of outcome }
+{
+    match outcome {
+        Ok(_) => 0,
+        Err(why) => why.number(),
+    }
+}

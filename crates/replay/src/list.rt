@@ -15,9 +15,7 @@ fn part_at(s: &[u8], k: usize) -> [u8; 32]
     requires { k + 32 ≤ length s.now }
 {
     let mut out = [0u8; 32];
-    for j in 0..32 {
-        out[j] = s[k + j];
-    }
+    out.copy_from_slice(&s[k..k + 32]);
     out
 }
 
@@ -86,17 +84,9 @@ pub(crate) fn of_bytes(s: &[u8], n: usize) -> [Reception; 124]
     list
 }
 
-// The answer to the first n receptions of a list, with its record in `out`.
-pub(crate) fn solve(
-    list: [Reception; 124],
-    n: usize,
-    clock: &[u8],
-    altitude: &[u8],
-    reference: &[u8],
-    present: u32,
-    out: &mut [u8],
-) -> u32
+// The first n receptions of a list.
+pub(crate) fn first(list: &[Reception; 124], n: usize) -> &[Reception]
     requires { n ≤ 124 }
 {
-    mlat_solver::mlat_solve_receptions(&list[..n], clock, altitude, reference, present, out)
+    &list[..n]
 }

@@ -8,7 +8,7 @@
 // answered by 14. Bytes that are not the record's are to stay A5.
 #![tactic(auto)]
 
-ghost use Rattle.std.specs.Prelude.{◌+◌, ◌<◌, ◌≤◌};
+ghost use Rattle.std.specs.Prelude.{◌≤◌};
 
 mod list;
 
@@ -18,15 +18,6 @@ use std::io::Read;
 
 // What the memory holds before a call.
 const FOUND: u8 = 0xa5;
-
-// A length of two bytes, the lower one first.
-fn size(low: u8, high: u8) -> usize {
-    low as usize + high as usize * 256
-}
-
-fn wide(x: u8) -> u32 {
-    x as u32
-}
 
 // How many bytes input k lends.
 fn room(k: u64) -> usize
@@ -51,23 +42,17 @@ fn short_room(k: u64) -> usize
     175
 }
 
-fn is_answer(answer: u32, recorded: u8) -> bool {
-    answer == wide(recorded)
-}
-
 // The memory after a call that wrote this record.
 fn written(recorded: &[u8; 176]) -> [u8; 641] {
     let mut memory = [FOUND; 641];
-    for j in 0..176 {
-        memory[j] = recorded[j];
-    }
+    memory[..176].copy_from_slice(recorded);
     memory
 }
 
 // Whether an answer and the memory after the call are the recorded ones.
 fn alike(answer: u32, memory: &[u8; 641], recorded: &[u8; 176]) -> bool {
     let expected = written(recorded);
-    is_answer(answer, recorded[0]) && check::same(memory, &expected)
+    answer == recorded[0] as u32 && check::same(memory, &expected)
 }
 
 // Whether a call that lent too little was answered so, and wrote nothing.
@@ -80,208 +65,137 @@ fn refused(answer: u32, memory: &[u8; 641]) -> bool {
 fn falsified(recorded: &[u8; 176], k: u64) -> [u8; 176] {
     let mut other = *recorded;
     let place = (k % 176) as usize;
-    other[place] = other[place] ^ 1;
+    other[place] ^= 1;
     other
 }
 
-// What two calls left, one that lent too little and one that did not, compared with the record of input k.
-fn compare(
-    short_answer: u32,
-    short_memory: &[u8; 641],
-    answer: u32,
-    memory: &[u8; 641],
-    recorded: &[u8; 176],
-    k: u64,
-) -> Compared {
+// The inputs of a call.
+#[derive(Clone, Copy)]
+struct Inputs<'a> {
+    receptions: &'a [u8],
+    clock: &'a [u8],
+    altitude: &'a [u8],
+    reference: &'a [u8],
+    present: u32,
+}
+
+// What two calls leave, one that lends too little and one that does not, compared with the record of input k.
+fn compare<F: Fn(&mut [u8]) -> u32>(call: F, recorded: &[u8; 176], k: u64) -> Compared
+    requires { F.IsAlwaysCallable call }
+{
+    let mut short_memory = [FOUND; 641];
+    let mut memory = [FOUND; 641];
+    let short_answer = call(&mut short_memory[..short_room(k)]);
+    let answer = call(&mut memory[..room(k)]);
     let other = falsified(recorded, k);
     Compared {
-        same: refused(short_answer, short_memory) && alike(answer, memory, recorded),
-        same_falsified: alike(answer, memory, &other),
+        same: refused(short_answer, &short_memory) && alike(answer, &memory, recorded),
+        same_falsified: alike(answer, &memory, &other),
     }
 }
 
-// `mlat_solve` of these files, compared with the record of input k.
-fn solved(
-    receptions: &[u8],
-    clock: &[u8],
-    altitude: &[u8],
-    reference: &[u8],
-    present: u32,
-    recorded: &[u8; 176],
-    k: u64,
-) -> Compared {
-    let mut short_memory = [FOUND; 641];
-    let mut memory = [FOUND; 641];
-    let few = short_room(k);
-    let enough = room(k);
-    let short_answer = mlat_solver::mlat_solve(
-        receptions,
-        clock,
-        altitude,
-        reference,
-        present,
-        &mut short_memory[..few],
-    );
-    let answer = mlat_solver::mlat_solve(
-        receptions,
-        clock,
-        altitude,
-        reference,
-        present,
-        &mut memory[..enough],
-    );
-    compare(short_answer, &short_memory, answer, &memory, recorded, k)
+// `mlat_solve` of these inputs, compared with the record of input k.
+fn solved(inputs: Inputs<'_>, recorded: &[u8; 176], k: u64) -> Compared {
+    compare(
+        |out| mlat_solver::mlat_solve(
+            inputs.receptions,
+            inputs.clock,
+            inputs.altitude,
+            inputs.reference,
+            inputs.present,
+            out,
+        ),
+        recorded,
+        k,
+    )
 }
 
-// `mlat_solve_receptions` of these files, compared with the record of input k.
-fn listed(
-    receptions: &[u8],
-    clock: &[u8],
-    altitude: &[u8],
-    reference: &[u8],
-    present: u32,
-    recorded: &[u8; 176],
-    k: u64,
-) -> Compared {
-    let n = receptions.len() / list::RECEPTION;
+// `mlat_solve_receptions` of these inputs, compared with the record of input k.
+fn listed(inputs: Inputs<'_>, recorded: &[u8; 176], k: u64) -> Compared {
+    let n = inputs.receptions.len() / list::RECEPTION;
     if n > list::MOST {
         return Compared {
             same: false,
             same_falsified: true,
         };
     }
-    let items = list::of_bytes(receptions, n);
-    let mut short_memory = [FOUND; 641];
-    let mut memory = [FOUND; 641];
-    let few = short_room(k);
-    let enough = room(k);
-    let short_answer = list::solve(
-        items,
-        n,
-        clock,
-        altitude,
-        reference,
-        present,
-        &mut short_memory[..few],
-    );
-    let answer = list::solve(
-        items,
-        n,
-        clock,
-        altitude,
-        reference,
-        present,
-        &mut memory[..enough],
-    );
-    compare(short_answer, &short_memory, answer, &memory, recorded, k)
+    let items = list::of_bytes(inputs.receptions, n);
+    let list = list::first(&items, n);
+    compare(
+        |out| mlat_solver::mlat_solve_receptions(
+            list,
+            inputs.clock,
+            inputs.altitude,
+            inputs.reference,
+            inputs.present,
+            out,
+        ),
+        recorded,
+        k,
+    )
 }
 
-// The comparisons of both calls with one input; of the second where there is one.
+// The comparisons of both calls with one input; of the second where its receptions are whole ones.
 #[derive(Clone, Copy)]
 struct Both {
     bytes: Compared,
-    has_list: bool,
-    list: Compared,
+    list: Option<Compared>,
 }
 
-fn call_both(
-    receptions: &[u8],
-    clock: &[u8],
-    altitude: &[u8],
-    reference: &[u8],
-    present: u32,
-    recorded: &[u8; 176],
-    k: u64,
-) -> Both {
-    let bytes = solved(receptions, clock, altitude, reference, present, recorded, k);
-    let has_list = receptions.len() % list::RECEPTION == 0;
-    if !has_list {
-        return Both {
-            bytes,
-            has_list,
-            list: bytes,
-        };
-    }
-    let list = listed(receptions, clock, altitude, reference, present, recorded, k);
+fn call_both(inputs: Inputs<'_>, recorded: &[u8; 176], k: u64) -> Both {
+    let whole = inputs.receptions.len() % list::RECEPTION == 0;
     Both {
-        bytes,
-        has_list,
-        list,
+        bytes: solved(inputs, recorded, k),
+        list: whole.then(|| listed(inputs, recorded, k)),
     }
 }
 
-// The next input, which is input k. Its first eight bytes are read already. A record that ends early is made one that
-// no call gives.
-fn tried(input: &mut impl Read, head: &[u8; 8], k: u64) -> Both {
+// The next input, which is input k. A record that ends early is made one that no call gives.
+fn next(input: &mut impl Read, k: u64) -> Option<Both> {
+    let head: [u8; 8] = cases::start(input)?;
     let mut receptions = [0u8; 16384];
     let mut clock = [0u8; 16384];
     let mut altitude = [0u8; 256];
     let mut reference = [0u8; 256];
     let mut recorded = [0u8; 176];
-    let r = cases::read(input, &mut receptions, size(head[0], head[1]));
-    let c = cases::read(input, &mut clock, size(head[2], head[3]));
-    let a = cases::read(input, &mut altitude, size(head[4], 0));
-    let f = cases::read(input, &mut reference, size(head[5], 0));
-    let whole = cases::read(input, &mut recorded, 176) == 176;
-    if !whole {
+    let r = cases::read(input, &mut receptions, words::u16_at(&head, 0) as usize);
+    let c = cases::read(input, &mut clock, words::u16_at(&head, 2) as usize);
+    let a = cases::read(input, &mut altitude, head[4] as usize);
+    let f = cases::read(input, &mut reference, head[5] as usize);
+    if cases::read(input, &mut recorded, 176) < 176 {
         recorded = [0xffu8; 176];
     }
-    let present = wide(head[6]);
-    call_both(
-        &receptions[..r],
-        &clock[..c],
-        &altitude[..a],
-        &reference[..f],
-        present,
-        &recorded,
-        k,
-    )
+    let inputs = Inputs {
+        receptions: &receptions[..r],
+        clock: &clock[..c],
+        altitude: &altitude[..a],
+        reference: &reference[..f],
+        present: head[6] as u32,
+    };
+    Some(call_both(inputs, &recorded, k))
 }
 
-// The next input's first eight bytes, and whether there are any.
-fn next(input: &mut impl Read, head: &mut [u8; 8]) -> bool {
-    cases::read(input, head, 8) == 8
-}
-
-// One list more, where the input has one.
-fn with_list(lists: Tally, found: Both) -> Tally
-    requires compared_bound { lists.compared < 1000000 }
-    requires differ_le_compared { (lists.differ ≤ lists.compared) × (lists.differ_falsified ≤ lists.compared) }
-    ensures { (result.compared ≤ lists.compared + 1)
-        × (result.differ ≤ result.compared) × (result.differ_falsified ≤ result.compared) }
-{
-    let list = found.list;
-    if found.has_list {
-        return lists.with(list);
+// Compares the inputs, one after the other: by the bytes, and by the list. The two are counted side by side, so that
+// the loop is written out here: `cases::replay` has one tally.
+fn compare_all(input: &mut impl Read) -> (Tally, Tally) {
+    let mut tally = Tally::none();
+    let mut lists = Tally::none();
+    for k in 0..cases::MOST {
+        let Some(found) = next(input, k) else {
+            break;
+        };
+        tally = tally.with(found.bytes);
+        if let Some(list) = found.list {
+            lists = lists.with(list);
+        }
     }
-    lists
-}
-
-fn print(rt: &impl Print, tally: Tally) -> io::Result<()> {
-    cases::print(rt, tally)
-}
-
-fn print_bytes(rt: &impl Print, tally: Tally) -> io::Result<()> {
-    rt.print("mlat_solve: ")?;
-    print(rt, tally)
-}
-
-fn print_lists(rt: &impl Print, tally: Tally) -> io::Result<()> {
-    rt.print("mlat_solve_receptions: ")?;
-    print(rt, tally)
+    (tally, lists)
 }
 
 fn main(rt: HostRuntime) -> io::Result<()> {
-    let mut input = rt.stdin();
-    let mut head = [0u8; 8];
-    let mut tally = Tally::none();
-    let mut lists = Tally::none();
-    while tally.compared < cases::MOST && next(&mut input, &mut head) {
-        let found = tried(&mut input, &head, tally.compared);
-        let bytes = found.bytes;
-        tally = tally.with(bytes);
-        lists = with_list(lists, found);
-    }
-    print_bytes(&rt, tally)?;
-    print_lists(&rt, lists)
+    let (tally, lists) = compare_all(&mut rt.stdin());
+    rt.print("mlat_solve: ")?;
+    cases::print(&rt, tally)?;
+    rt.print("mlat_solve_receptions: ")?;
+    cases::print(&rt, lists)
 }

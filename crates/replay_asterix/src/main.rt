@@ -5,7 +5,9 @@
 // number.
 #![tactic(auto)]
 
-use cases::{Compared, Tally};
+ghost use Rattle.std.specs.Prelude.{◌≡◌, length};
+
+use cases::Compared;
 use std::io;
 use std::io::Read;
 
@@ -14,21 +16,9 @@ const FOUND: u8 = 0xa5;
 
 const FOUND_I32: i32 = -0x5a5a_5a5b;
 
-fn is_answer(answer: u32, recorded: u8) -> bool {
-    answer == recorded as u32
-}
-
-// Changes a byte of what call k is to leave, or gives another number.
-fn falsified(number: u8, after: &mut [u8], k: u64) -> u8 {
-    let place = (k % 16) as usize;
-    if place < after.len() {
-        after[place] = after[place] ^ 1;
-        return number;
-    }
-    number ^ 1
-}
-
-fn three(whole: &[u8; 12]) -> [i32; 3] {
+fn three(whole: &[u8]) -> [i32; 3]
+    requires { length whole.now ≡ 12 }
+{
     [
         words::i32_at(whole, 0),
         words::i32_at(whole, 4),
@@ -45,100 +35,50 @@ fn called(export: bool, whole: &[u8; 12], out: &mut [u8]) -> u32 {
     mlat_solver::mlat_write_asterix(&numbers, out)
 }
 
-// Whether the numbers get this number, and leave these bytes.
-fn written_alike(export: bool, whole: &[u8; 12], number: u8, out: &mut [u8], after: &[u8]) -> bool {
-    let answer = called(export, whole, out);
-    is_answer(answer, number) && check::same(out, after)
-}
-
-// The same with the falsified answer: a call changes no byte of `out` that an equal call before it did not change.
-fn written_twice(
-    export: bool,
-    whole: &[u8; 12],
-    number: u8,
-    out: &mut [u8],
-    after: &mut [u8],
-    k: u64,
-) -> Compared {
-    let same = written_alike(export, whole, number, out, after);
-    let other = falsified(number, after, k);
-    let same_falsified = written_alike(export, whole, other, out, after);
-    Compared {
-        same,
-        same_falsified,
-    }
-}
-
-// What is lent to a call.
-fn found() -> [u8; 16] {
-    [FOUND; 16]
-}
-
-// The next call, which writes to so many lent bytes.
+// The next call, which is call k and writes to so many lent bytes.
 fn written(input: &mut impl Read, export: bool, number: u8, length: usize, k: u64) -> Compared {
     let mut whole = [0u8; 12];
-    let mut out = found();
+    let mut out = [FOUND; 16];
     let mut after = [0u8; 16];
     cases::read(input, &mut whole, 12);
     let n = cases::read(input, &mut after, length);
-    written_twice(export, &whole, number, &mut out[..n], &mut after[..n], k)
+    let answer = called(export, &whole, &mut out[..n]);
+    cases::twice(
+        number,
+        &mut after[..n],
+        (k % 16) as usize,
+        |number, after| answer == number as u32 && check::same(&out[..n], after),
+    )
 }
 
-// Whether bytes get this number, and leave the multiples that stand in `after`.
-fn read_alike(bytes: &[u8], number: u8, after: &[u8; 12]) -> bool {
-    let mut multiples = [FOUND_I32; 3];
-    let answer = mlat_solver::mlat_read_asterix(bytes, &mut multiples);
-    let recorded = three(after);
-    is_answer(answer, number)
-        && multiples[0] == recorded[0]
-        && multiples[1] == recorded[1]
-        && multiples[2] == recorded[2]
-}
-
-// The next call, which reads so many bytes.
+// The next call, which is call k and reads so many bytes.
 fn read(input: &mut impl Read, number: u8, length: usize, k: u64) -> Compared {
     let mut bytes = [0u8; 16];
     let mut after = [0u8; 12];
+    let mut multiples = [FOUND_I32; 3];
     let n = cases::read(input, &mut bytes, length);
     cases::read(input, &mut after, 12);
-    let same = read_alike(&bytes[..n], number, &after);
-    let other = falsified(number, &mut after, k);
-    let same_falsified = read_alike(&bytes[..n], other, &after);
-    Compared {
-        same,
-        same_falsified,
-    }
+    let answer = mlat_solver::mlat_read_asterix(&bytes[..n], &mut multiples);
+    cases::twice(
+        number,
+        &mut after,
+        (k % 16) as usize,
+        |number, after| answer == number as u32 && after.len() == 12 && multiples == three(after),
+    )
 }
 
-fn size(length: u8) -> usize {
-    length as usize
-}
-
-// The next call, which is call k. Its first eight bytes are read already.
-fn tried(input: &mut impl Read, head: &[u8; 8], k: u64) -> Compared {
-    let length = size(head[2]);
-    if head[0] == 2 {
-        return read(input, head[1], length, k);
-    }
-    written(input, head[0] == 0, head[1], length, k)
-}
-
-// The next call's first eight bytes, and whether there are any.
-fn next(input: &mut impl Read, head: &mut [u8; 8]) -> bool {
-    cases::read(input, head, 8) == 8
-}
-
-fn print(rt: &impl Print, tally: Tally) -> io::Result<()> {
-    cases::print(rt, tally)
+// The next call, which is call k.
+fn next(input: &mut impl Read, k: u64) -> Option<Compared> {
+    let head: [u8; 8] = cases::start(input)?;
+    let length = head[2] as usize;
+    Some(match head[0] {
+        0 => written(input, true, head[1], length, k),
+        2 => read(input, head[1], length, k),
+        _ => written(input, false, head[1], length, k),
+    })
 }
 
 fn main(rt: HostRuntime) -> io::Result<()> {
     let mut input = rt.stdin();
-    let mut head = [0u8; 8];
-    let mut tally = Tally::none();
-    while tally.compared < cases::MOST && next(&mut input, &mut head) {
-        let found = tried(&mut input, &head, tally.compared);
-        tally = tally.with(found);
-    }
-    print(&rt, tally)
+    cases::print(&rt, cases::replay(|k| next(&mut input, k)))
 }

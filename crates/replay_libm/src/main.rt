@@ -5,35 +5,29 @@
 // not-a-numbers count as one value.
 #![tactic(auto)]
 
-use cases::{Compared, Tally};
+use cases::Compared;
 use std::io;
 use std::io::Read;
 
 // What the function of a record gives.
 fn result(function: u64, a: f64, b: f64) -> f64 {
-    if function == 0 {
-        return mlat_solver::mlat_sin(a);
+    match function {
+        0 => mlat_solver::mlat_sin(a),
+        1 => mlat_solver::mlat_cos(a),
+        2 => mlat_solver::mlat_atan2(a, b),
+        _ => mlat_solver::mlat_hypot(a, b),
     }
-    if function == 1 {
-        return mlat_solver::mlat_cos(a);
-    }
-    if function == 2 {
-        return mlat_solver::mlat_atan2(a, b);
-    }
-    mlat_solver::mlat_hypot(a, b)
 }
 
 // Whether the pair of sine and cosine has these bits at its place; it has no other result.
 fn is_in_pair(function: u64, a: f64, bits: u64) -> bool {
     let mut pair = [0.0; 2];
     mlat_solver::mlat_sincos(a, &mut pair);
-    if function == 0 {
-        return is_result(pair[0], bits);
+    match function {
+        0 => is_result(pair[0], bits),
+        1 => is_result(pair[1], bits),
+        _ => true,
     }
-    if function == 1 {
-        return is_result(pair[1], bits);
-    }
-    true
 }
 
 // A result is falsified in the highest bit of its exponent: that changes every number, and a not-a-number into one.
@@ -56,22 +50,11 @@ fn tried(record: &[u8; 32]) -> Compared {
     }
 }
 
-// The next record, and whether there was one.
-fn next(input: &mut impl Read, record: &mut [u8; 32]) -> bool {
-    cases::read(input, record, 32) == 32
-}
-
-fn print(rt: &impl Print, tally: Tally) -> io::Result<()> {
-    cases::print(rt, tally)
+fn next(input: &mut impl Read) -> Option<Compared> {
+    cases::start(input).map(|record| tried(&record))
 }
 
 fn main(rt: HostRuntime) -> io::Result<()> {
     let mut input = rt.stdin();
-    let mut record = [0u8; 32];
-    let mut tally = Tally::none();
-    while tally.compared < cases::MOST && next(&mut input, &mut record) {
-        let found = tried(&record);
-        tally = tally.with(found);
-    }
-    print(&rt, tally)
+    cases::print(&rt, cases::replay(|_| next(&mut input)))
 }

@@ -6,9 +6,7 @@
 // number.
 #![tactic(auto)]
 
-ghost use Rattle.std.specs.Prelude.{◌≤◌};
-
-use cases::{Compared, Tally};
+use cases::Compared;
 use std::io;
 use std::io::Read;
 
@@ -24,21 +22,6 @@ const FOUND: u64 = 0xa5a5_a5a5_a5a5_a5a5;
 
 // The most entries that a recorded search lends.
 const ENTRIES: usize = 128;
-
-// A length of two bytes, the lower one first.
-fn size(low: u8, high: u8) -> usize {
-    low as usize + high as usize * 256
-}
-
-// Changes a byte of what search k is to leave, or gives another number.
-fn falsified(number: u8, after: &mut [u8], k: u64) -> u8 {
-    let place = (k % 24) as usize;
-    if place < after.len() {
-        after[place] = after[place] ^ 1;
-        return number;
-    }
-    number ^ 1
-}
 
 // Searches a file, for the nearest or for those within the radius.
 fn searched(nearest: u8, file: &[u8], query: &[u8; 32], places: &mut [u64]) -> Answer {
@@ -58,93 +41,37 @@ fn searched(nearest: u8, file: &[u8], query: &[u8; 32], places: &mut [u64]) -> A
 
 // Whether the u64 at place i of the bytes, from 0, is this one.
 fn holds(bytes: &[u8], i: usize, value: u64) -> bool {
-    if bytes.len() / 8 <= i {
-        return false;
-    }
-    words::u64_at(bytes, 8 * i) == value
+    i < bytes.len() / 8 && words::u64_at(bytes, 8 * i) == value
 }
 
-// Whether the entries are the u64 from the second on in the bytes.
-fn same_entries(places: &[u64], after: &[u8]) -> bool {
-    for i in 0..places.len() {
-        if !holds(after, i + 1, places[i]) {
-            return false;
-        }
-    }
-    true
-}
-
-// Whether an answer and the entries are these.
+// Whether an answer and the entries are these: the count or place stands before the entries in `after`.
 fn alike(answer: Answer, places: &[u64], number: u8, after: &[u8]) -> bool {
-    answer.number == number as u32 && holds(after, 0, answer.out) && same_entries(places, after)
+    answer.number == number as u32
+        && holds(after, 0, answer.out)
+        && (0..places.len()).all(|i| holds(after, i + 1, places[i]))
 }
 
-fn twice(
-    nearest: u8,
-    file: &[u8],
-    query: &[u8; 32],
-    places: &mut [u64],
-    number: u8,
-    after: &mut [u8],
-    k: u64,
-) -> Compared {
-    let answer = searched(nearest, file, query, places);
-    let same = alike(answer, places, number, after);
-    let other = falsified(number, after, k);
-    let same_falsified = alike(answer, places, other, after);
-    Compared {
-        same,
-        same_falsified,
-    }
-}
-
-// As many entries as are lent, or all that there is room for.
-fn lent(n: usize) -> usize
-    ensures { result ≤ 128 }
-{
-    if n < ENTRIES {
-        return n;
-    }
-    ENTRIES
-}
-
-// The next search, which is search k. Its first eight bytes are read already.
-fn tried(input: &mut impl Read, head: &[u8; 8], k: u64) -> Compared {
+// The next search, which is search k.
+fn next(input: &mut impl Read, k: u64) -> Option<Compared> {
+    let head: [u8; 8] = cases::start(input)?;
     let mut file = [0u8; 16384];
     let mut query = [0u8; 32];
     let mut places = [FOUND; ENTRIES];
     let mut after = [0u8; 1032];
-    let f = cases::read(input, &mut file, size(head[2], head[3]));
-    let n = lent(size(head[4], head[5]));
-    let q = cases::read(input, &mut query, 32);
+    let f = cases::read(input, &mut file, words::u16_at(&head, 2) as usize);
+    let n = ENTRIES.min(words::u16_at(&head, 4) as usize);
+    cases::read(input, &mut query, 32);
     let a = cases::read(input, &mut after, 8 + 8 * n);
-    twice(
-        head[0],
-        &file[..f],
-        &query,
-        &mut places[..n],
+    let answer = searched(head[0], &file[..f], &query, &mut places[..n]);
+    Some(cases::twice(
         head[1],
         &mut after[..a],
-        k,
-    )
-}
-
-// The next search's first eight bytes, and whether there are any.
-fn next(input: &mut impl Read, head: &mut [u8; 8]) -> bool {
-    cases::read(input, head, 8) == 8
-}
-
-fn print(rt: &impl Print, tally: Tally) -> io::Result<()> {
-    cases::print(rt, tally)
+        (k % 24) as usize,
+        |number, after| alike(answer, &places[..n], number, after),
+    ))
 }
 
 fn main(rt: HostRuntime) -> io::Result<()> {
     let mut input = rt.stdin();
-    let mut head = [0u8; 8];
-    let mut tally = Tally::none();
-    while tally.compared < cases::MOST && next(&mut input, &mut head) {
-        let found = tried(&mut input, &head, tally.compared);
-        tally = tally.with(found);
-    }
-    print(&rt, tally)
+    cases::print(&rt, cases::replay(|k| next(&mut input, k)))
 }

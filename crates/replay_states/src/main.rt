@@ -10,14 +10,9 @@
 
 ghost use Rattle.std.specs.Prelude.{◌≤◌};
 
-use cases::{Compared, Tally};
+use cases::Compared;
 use std::io;
 use std::io::Read;
-
-// A length of two bytes, the lower one first.
-fn size(low: u8, high: u8) -> usize {
-    low as usize + high as usize * 256
-}
 
 // What the memory holds before a call, and the detail.
 const FOUND: u8 = 0xa5;
@@ -50,9 +45,7 @@ fn short_room(k: u64) -> usize
 // The memory after a call that left these states.
 fn written(recorded: &[u8; 640]) -> [u8; 641] {
     let mut memory = [FOUND; 641];
-    for j in 0..640 {
-        memory[j] = recorded[j];
-    }
+    memory[..640].copy_from_slice(recorded);
     memory
 }
 
@@ -79,7 +72,7 @@ fn falsified_answer(recorded: &[u8; 8], k: u64) -> [u8; 8] {
     let mut other = *recorded;
     let place = (k / 2 % 8) as usize;
     if k % 2 == 0 {
-        other[place] = other[place] ^ 1;
+        other[place] ^= 1;
     }
     other
 }
@@ -89,71 +82,51 @@ fn falsified_states(recorded: &[u8; 640], k: u64) -> [u8; 640] {
     let mut other = *recorded;
     let place = (k / 2 % 640) as usize;
     if k % 2 == 1 {
-        other[place] = other[place] ^ 1;
+        other[place] ^= 1;
     }
     other
 }
 
-// The answer number and the detail of these files, one after the other, and the lent bytes.
-fn tell(
-    receptions: &[u8],
-    clock: &[u8],
-    altitude: &[u8],
-    reference: &[u8],
+// The inputs of a call.
+#[derive(Clone, Copy)]
+struct Inputs<'a> {
+    receptions: &'a [u8],
+    clock: &'a [u8],
+    altitude: &'a [u8],
+    reference: &'a [u8],
     present: u8,
-    answer: &mut [u8; 8],
-    states: &mut [u8],
-) {
+}
+
+// The answer number and the detail of these inputs, one after the other, and the lent bytes.
+fn tell(inputs: Inputs<'_>, states: &mut [u8]) -> [u8; 8] {
     let mut detail = FOUND_DETAIL;
     let number = mlat_solver::mlat_why(
-        receptions,
-        clock,
-        altitude,
-        reference,
-        present as u32,
+        inputs.receptions,
+        inputs.clock,
+        inputs.altitude,
+        inputs.reference,
+        inputs.present as u32,
         states,
         &mut detail,
     );
-    words::put_u32(answer, 0, number);
-    words::put_u32(answer, 4, detail);
+    let mut answer = [0u8; 8];
+    words::put_u32(&mut answer, 0, number);
+    words::put_u32(&mut answer, 4, detail);
+    answer
 }
 
-// What two calls with these files left, one that lends too little and one that does not, compared with the answer of
+// What two calls with these inputs left, one that lends too little and one that does not, compared with the answer of
 // input k.
 fn compare(
-    receptions: &[u8],
-    clock: &[u8],
-    altitude: &[u8],
-    reference: &[u8],
-    present: u8,
+    inputs: Inputs<'_>,
     recorded: &[u8; 8],
     recorded_states: &[u8; 640],
     k: u64,
 ) -> Compared {
-    let mut short_answer = [0u8; 8];
-    let mut answer = [0u8; 8];
     let mut short_memory = [FOUND; 641];
     let mut memory = [FOUND; 641];
-    let few = short_room(k);
-    let enough = room(k);
-    tell(
-        receptions,
-        clock,
-        altitude,
-        reference,
-        present,
-        &mut short_answer,
-        &mut short_memory[..few],
-    );
-    tell(
-        receptions,
-        clock,
-        altitude,
-        reference,
-        present,
-        &mut answer,
-        &mut memory[..enough],
-    );
+    let short_answer = tell(inputs, &mut short_memory[..short_room(k)]);
+    let answer = tell(inputs, &mut memory[..room(k)]);
     let other = falsified_answer(recorded, k);
     let other_states = falsified_states(recorded_states, k);
     let same = alike(&answer, &memory, recorded, recorded_states);
@@ -163,52 +136,36 @@ fn compare(
     }
 }
 
-// The next input, which is input k. Its first eight bytes are read already. An answer that ends early differs.
-fn tried(input: &mut impl Read, head: &[u8; 8], k: u64) -> Compared {
+// The next input, which is input k. An answer that ends early differs.
+fn next(input: &mut impl Read, k: u64) -> Option<Compared> {
+    let head: [u8; 8] = cases::start(input)?;
     let mut receptions = [0u8; 16384];
     let mut clock = [0u8; 16384];
     let mut altitude = [0u8; 256];
     let mut reference = [0u8; 256];
     let mut recorded = [0u8; 8];
     let mut recorded_states = [0u8; 640];
-    let r = cases::read(input, &mut receptions, size(head[0], head[1]));
-    let c = cases::read(input, &mut clock, size(head[2], head[3]));
-    let a = cases::read(input, &mut altitude, size(head[4], 0));
-    let f = cases::read(input, &mut reference, size(head[5], 0));
+    let r = cases::read(input, &mut receptions, words::u16_at(&head, 0) as usize);
+    let c = cases::read(input, &mut clock, words::u16_at(&head, 2) as usize);
+    let a = cases::read(input, &mut altitude, head[4] as usize);
+    let f = cases::read(input, &mut reference, head[5] as usize);
     let began = cases::read(input, &mut recorded, 8) == 8;
     let whole = cases::read(input, &mut recorded_states, 640) == 640;
-    let found = compare(
-        &receptions[..r],
-        &clock[..c],
-        &altitude[..a],
-        &reference[..f],
-        head[6],
-        &recorded,
-        &recorded_states,
-        k,
-    );
-    Compared {
+    let inputs = Inputs {
+        receptions: &receptions[..r],
+        clock: &clock[..c],
+        altitude: &altitude[..a],
+        reference: &reference[..f],
+        present: head[6],
+    };
+    let found = compare(inputs, &recorded, &recorded_states, k);
+    Some(Compared {
         same: began && whole && found.same,
         same_falsified: found.same_falsified,
-    }
-}
-
-// The next input's first eight bytes, and whether there are any.
-fn next(input: &mut impl Read, head: &mut [u8; 8]) -> bool {
-    cases::read(input, head, 8) == 8
-}
-
-fn print(rt: &impl Print, tally: Tally) -> io::Result<()> {
-    cases::print(rt, tally)
+    })
 }
 
 fn main(rt: HostRuntime) -> io::Result<()> {
     let mut input = rt.stdin();
-    let mut head = [0u8; 8];
-    let mut tally = Tally::none();
-    while tally.compared < cases::MOST && next(&mut input, &mut head) {
-        let found = tried(&mut input, &head, tally.compared);
-        tally = tally.with(found);
-    }
-    print(&rt, tally)
+    cases::print(&rt, cases::replay(|k| next(&mut input, k)))
 }

@@ -43,27 +43,9 @@ fn lengths(problem: &[u8]) -> [u32; 4] {
 
 // Adds n bytes from byte `at` on, or what there is of them.
 fn push_part(cut: &mut Vec<u8>, problem: &[u8], at: usize, n: usize) -> Result<(), AllocError> {
-    for i in 0..n {
-        if let Some(byte) = problem.get(at.wrapping_add(i)) {
-            cut.push(*byte)?;
-        }
-    }
-    Ok(())
-}
-
-// Adds a number, little-endian.
-fn push_word(cut: &mut Vec<u8>, word: u32) -> Result<(), AllocError> {
-    for byte in word.to_le_bytes() {
-        cut.push(byte)?;
-    }
-    Ok(())
-}
-
-fn push_lengths(cut: &mut Vec<u8>, lengths: [u32; 4]) -> Result<(), AllocError> {
-    for length in lengths {
-        push_word(cut, length)?;
-    }
-    Ok(())
+    let from = at.min(problem.len());
+    let part = &problem[from..];
+    cut.extend_from_slice(&part[..n.min(part.len())])
 }
 
 // The problem with each input cut to so much of its start as is enough.
@@ -72,13 +54,26 @@ fn cut(alloc: Global, problem: &[u8]) -> Result<Vec<u8>, AllocError> {
     let mut enough = [0; 4];
     mlat_solver::mlat_cut_lengths(&whole, &mut enough);
     let mut cut = Vec::new(alloc);
-    push_lengths(&mut cut, enough)?;
-    let mut at = HEAD;
-    for i in 0..4 {
-        push_part(&mut cut, problem, at, size(enough[i]))?;
-        at = at.wrapping_add(size(whole[i]));
+    for length in enough {
+        cut.extend_from_slice(&length.to_le_bytes())?;
     }
+    push_parts(&mut cut, problem, whole, enough)?;
     Ok(cut)
+}
+
+// Adds the starts of the inputs.
+fn push_parts(
+    cut: &mut Vec<u8>,
+    problem: &[u8],
+    whole: [u32; 4],
+    enough: [u32; 4],
+) -> Result<(), AllocError> {
+    let mut at = HEAD;
+    for (whole, enough) in whole.iter().zip(&enough) {
+        push_part(cut, problem, at, size(*enough))?;
+        at = at.saturating_add(size(*whole));
+    }
+    Ok(())
 }
 
 // Solves the first problem and prints its record. How many bytes it takes: none where the stream ends within it.
@@ -94,20 +89,15 @@ fn solve(rt: &impl Print, stream: &[u8]) -> io::Result<u64> {
 
 // How many bytes a problem has, by its lengths.
 fn takes(problem: &[u8]) -> u64 {
-    let mut bytes = HEAD as u64;
-    for length in lengths(problem) {
-        bytes = bytes.wrapping_add(size(length) as u64);
-    }
-    bytes
+    lengths(problem).iter().fold(
+        HEAD as u64,
+        |bytes, length| bytes.wrapping_add(size(*length) as u64),
+    )
 }
 
 // The stream from byte `used` on; nothing where it has not so many.
 fn rest(stream: &[u8], used: u64) -> &[u8] {
-    let n = stream.len();
-    if used > n as u64 {
-        return &stream[n..];
-    }
-    &stream[used as usize..]
+    stream.get(used as usize..).unwrap_or(&[])
 }
 
 // Solves the problems of a stream as they stand in it.

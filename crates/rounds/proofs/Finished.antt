@@ -1,5 +1,7 @@
 -- What `finish` gives, by the tests that its code makes. Assumes nothing.
-use Rattle.std.proofs.Common.{◌≡◌, ℕ, Bool, true, false, cond, List, replicate, ℤ, sym, refl, ap, ◌∙◌}
+use Rattle.std.proofs.Common.{◌≡◌, ℕ, Bool, true, false, cond, List, replicate, ℤ, sym, refl, ap, ◌∙◌, arith}
+use Rattle.std.specs.Prelude as std
+use Rattle.std.specs.Prelude.{IsErrAnd}
 use lib.Ieee.{Float}
 use Rattle.binary64.specs.Steps.{nought}
 use Rattle.dense.specs.Factor.{Factor, found, refused, cholesky}
@@ -9,12 +11,13 @@ use Rattle.limits.specs.Local.{published}
 use Rattle.damped.specs.declared.Fit.{Fit}
 use Rattle.best.specs.Best.{Outcome, refuses, gives}
 use Rattle.record.specs.declared.content.Fix.{Fix}
-use Rattle.rounds.specs.declared.moment.Moment.{Moment}
-use Rattle.rounds.specs.declared.finish.Finished.{Finished}
+use Rattle.rounds.specs.declared.answer.Refusal.{Refusal}
 use Rattle.rounds.specs.declared.finish.Unpublished.{Unpublished}
 use Rattle.rounds.specs.declared.finish.Unpublished.TheVariants.{Singular, Uncertain, OutOfRange}
 use Rattle.rounds.specs.Finish.{fits_i64, transmit_ps, certain, fix_of, shown, inverted, finish}
-use Rattle.rounds.specs.Held.{moment_of, as_finished}
+use Rattle.rounds.specs.Setting.{of_unpublished}
+use Rattle.rounds.specs.Rounds.{closed}
+use Rattle.rounds.specs.Held.{moment_of, as_result, as_answer}
 use Rattle.rounds.proofs.Moments.{moment-held, moment-beyond}
 
 module _ (mask dof : ℕ) (reference : ℤ) (fit : Fit) where
@@ -45,23 +48,36 @@ module _ (mask dof : ℕ) (reference : ℤ) (fit : Fit) where
         ∙ sym (ap (λ (t : Bool). cond t (cond (fits_i64 time) (gives (fix_of mask dof fit c time)) (refuses OutOfRange)) (refuses Uncertain)) h) ∙
         finish-shows
 
-    module _ (h : certain c ≡ true) (m : Moment) (M : m ≡ moment_of time) where
-      pub out-of-range : m.held ≡ false → refuses OutOfRange ≡ finish mask dof reference fit
-      out-of-range k = timed false h (moment-beyond time m M k)
+    pub out-of-range : certain c ≡ true → ◌≡◌ {A = std.Option ℤ} std.None (moment_of time) → refuses OutOfRange ≡ finish mask dof reference fit
+    out-of-range h m = timed false h (moment-beyond time m)
 
-      pub gives-fix : m.held ≡ true → (x : Fix) → x ≡ fix_of mask dof fit c m.ps → gives x ≡ finish mask dof reference fit
-      gives-fix k x q =
-          let t = moment-held time m M k in
-          ap gives (q ∙ ap (fix_of mask dof fit c) t.1) ∙ timed true h t.0
+    pub gives-fix : certain c ≡ true → (ps : ℤ) → std.Some ps ≡ moment_of time → (x : Fix) → x ≡ fix_of mask dof fit c ps
+        → gives x ≡ finish mask dof reference fit
+    gives-fix h ps m x q =
+        let t = moment-held time ps m in
+        ap gives (q ∙ ap (fix_of mask dof fit c) t.1) ∙ timed true h t.0
 
--- ---- the fix, or why there is none, read back from what the code holds of it
-abbrev told : Finished → Outcome Unpublished Fix
-told r = cond r.published (gives r.fix) (refuses r.why)
+-- ---- the transmit time, by what `ok_or` and `?` make of it
+module _ {A E : Type 0} (late : E) where
+  pub none-told : (m : std.Option A) (e : E) → std.Err e ≡ std.ok_or m late → (std.None ≡ m) × (e ≡ late)
+  none-told std.None e h = (refl, cc)
+  none-told (std.Some x) e h = absurd (let q : ◌≡◌ {A = ℕ} 0 1 = cc in omega arith)
 
-told-as : (o : Outcome Unpublished Fix) → told (as_finished o) ≡ o
-told-as (refuses e) = refl
-told-as (gives x) = refl
+  pub some-told : (m : std.Option A) (x : A) → std.Ok x ≡ std.ok_or m late → std.Some x ≡ m
+  some-told std.None x h = absurd (let q : ◌≡◌ {A = ℕ} 0 1 = cc in omega arith)
+  some-told (std.Some y) x h = cc
 
-pub read_back : (r : Finished) (o : Outcome Unpublished Fix) (b : Bool) → r ≡ as_finished o → r.published ≡ b
-    → cond b (gives r.fix) (refuses r.why) ≡ o
-read_back r o b e t = ap (λ (x : Bool). cond x (gives r.fix) (refuses r.why)) (sym t) ∙ ap told e ∙ told-as o
+pub told-err : {X E : Type 0} (r : std.Result X E) (e : E) → IsErrAnd r (λ f. f ≡ e) → r ≡ std.Err e
+told-err (std.Err f) e h = ap std.Err h
+told-err (std.Ok x) e h = absurd h
+
+-- ---- the answer once the rounds are settled, by what `?` makes of the later steps
+pub closed-gives : (o : Outcome Unpublished Fix) (x : Fix) → ◌≡◌ {A = std.Result Fix Unpublished} (std.Ok x) (as_result o)
+    → std.Ok x ≡ as_answer (closed o)
+closed-gives (gives y) x e = let q : x ≡ y = cc in ap std.Ok q
+closed-gives (refuses u) x e = absurd (let q : ◌≡◌ {A = ℕ} 0 1 = cc in omega arith)
+
+pub closed-refuses : (o : Outcome Unpublished Fix) (u : Unpublished) (r : std.Result Fix Refusal)
+    → ◌≡◌ {A = std.Result Fix Unpublished} (std.Err u) (as_result o) → IsErrAnd r (λ e. e ≡ of_unpublished u) → r ≡ as_answer (closed o)
+closed-refuses (refuses v) u r e h = let q : u ≡ v = cc in told-err r (of_unpublished u) h ∙ ap (λ (w : Unpublished). std.Err (of_unpublished w)) q
+closed-refuses (gives x) u r e h = absurd (let q : ◌≡◌ {A = ℕ} 0 1 = cc in omega arith)

@@ -1,5 +1,6 @@
 -- The best fit of what the code gathers, from the starts in their array, is the definition's. Assumes nothing.
 use Rattle.std.proofs.Common.{◌≡◌, ◌≤◌, Bool, true, false, cond, List, refl, ap, ◌∙◌, ap₂, arith}
+use Rattle.std.specs.Prelude as std
 use mathlib.Core.Option.{none, some}
 use lib.Ieee.{Float}
 use Rattle.sets.specs.Sets.{Subset, count}
@@ -18,7 +19,7 @@ use Rattle.best.specs.Held.{array_of, as_best_at, best_fit, points_to}
 use Rattle.best.specs.OfProblem.{Receptions, subset_sites, subset_z, starts_over, best_fit_over}
 use Rattle.best.proofs.Listing.{points-back}
 use Rattle.rounds.specs.declared.fitting.Gathered.{Gathered}
-use Rattle.rounds.specs.Held.{gathered, held_over}
+use Rattle.rounds.specs.Held.{gathered, found_before, held_over}
 
 module _ (R : Receptions) (S : Subset) (had : Bool) (previous : List Float) where
   starts-are : (t : Bool) → starts_after t previous (subset_sites R.site R.n S) (subset_z R.z R.n S) (count S R.n) R.altitude
@@ -52,3 +53,8 @@ module _ (R : Receptions) (S : Subset) (had : Bool) (previous : List Float) wher
 
     pub held-is : as_best_at (heard g) (fits_from g (points_to r.at r.n)) ≡ held_over R S (cond had (some previous) none)
     held-is = ap₂ as_best_at (ap heard e) fit_is
+
+-- the round before, as it is handed over
+pub before-is : (o : std.Option (List Float)) (d : List Float) → cond (std.is_some o) (some (std.unwrap_or o d)) none ≡ found_before o
+before-is std.None d = refl
+before-is (std.Some p) d = refl

@@ -1,8 +1,8 @@
 -- The rounds' loop: what is left to answer after the rounds so far. Assumes nothing.
-use Rattle.std.proofs.Common.{◌≡◌, ℕ, suc, ◌+◌, ◌-◌, ◌*◌, ◌^◌, ◌<◌, ◌≤◌, true, false, List, replicate, ℤ, sym, ap, ◌∙◌, subst, ap₂, arith}
+use Rattle.std.proofs.Common.{◌≡◌, ℕ, suc, ◌+◌, ◌-◌, ◌*◌, ◌^◌, ◌<◌, ◌≤◌, List, ℤ, sym, ap, ◌∙◌, subst, ap₂, arith}
+use Rattle.std.specs.Prelude as std
 use mathlib.Core.Option.{Option, none, some}
 use lib.Ieee.{Float}
-use Rattle.binary64.specs.Steps.{nought}
 use Rattle.sets.specs.Sets.{Subset, count}
 use Rattle.sets.specs.Mask.{has}
 use Rattle.sets.proofs.Masks.{count-within}
@@ -13,12 +13,13 @@ use Rattle.record.specs.declared.content.Fix.{Fix}
 use Rattle.rounds.specs.declared.answer.Refusal.{Refusal}
 use Rattle.rounds.specs.declared.fitting.State.{State}
 use Rattle.rounds.specs.declared.outliers.Turn.{Turn}
-use Rattle.rounds.specs.declared.outliers.Turn.TheVariants.{Ends, Changes, Settles}
+use Rattle.rounds.specs.declared.outliers.Turn.TheVariants.{Changes, Settles}
+use Rattle.rounds.specs.declared.round.Step as code
 use Rattle.rounds.specs.Setting.{refused, no_fixed_point, Setting, kept, survivors}
 use Rattle.rounds.specs.Rounds.{Step, ends, changes, settles, closed, round, answer_after, rounds_to, outlier_rounds}
 use Rattle.rounds.specs.Solve.{kept_at, setting_of, solve_problem}
 use Rattle.rounds.specs.Unmoved.{capped}
-use Rattle.rounds.specs.Held.{previous_of, step_of}
+use Rattle.rounds.specs.Held.{previous_of, step_of, step_by}
 use Rattle.rounds.proofs.Choices.{Within}
 use Rattle.rounds.proofs.Steps.{Says, round-says}
 use Rattle.rounds.proofs.Chains.{change-within}
@@ -39,7 +40,7 @@ module _ (R : Receptions) (mask : ℕ) (reference : ℤ) (N : R.n ≤ 32) where
     keeps = subst (Within P) (sym e) w;
   }
 
-  pub left-start : (s : State) (cap : ℕ) → s ≡ record { included = mask; had = false; previous = replicate 4 nought } → Left cap (cap - 0) s
+  pub left-start : (s : State) (cap : ℕ) → s ≡ record { included = mask; previous = std.None } → Left cap (cap - 0) s
   left-start s cap i =
       left cap (cap - 0) (kept P) none s (ap (λ (x : State). has x.included) i) (ap previous_of i)
       (ap (λ (j : ℕ). rounds_to P j (kept P) none) (let d : cap ≡ cap - 0 = omega arith in d)) (λ j t. t)
@@ -53,7 +54,7 @@ module _ (R : Receptions) (mask : ℕ) (reference : ℤ) (N : R.n ≤ 32) where
       ap (λ (j : ℕ). rounds_to P j (kept P) none) d
 
   -- ---- one round more
-  module _ (k cap : ℕ) (s : State) (t : Turn) (f : Fit) (E : step_of t f ≡ round P (has s.included) (previous_of s)) (K : k < cap)
+  module _ (k cap : ℕ) (s : State) (t : std.Result code.Step Refusal) (E : step_by t ≡ round P (has s.included) (previous_of s)) (K : k < cap)
       (I : Left cap (cap - k) s) where
     next : (x : Step Fit) → x ≡ round P (has s.included) (previous_of s) → capped P cap
         ≡ answer_after P (λ S q. rounds_to P (cap - (k + 1)) S q) (has s.included) x
@@ -62,21 +63,21 @@ module _ (R : Receptions) (mask : ℕ) (reference : ℤ) (N : R.n ≤ 32) where
         I.answers ∙ ap (λ (j : ℕ). rounds_to P j (has s.included) (previous_of s)) (let d : cap - k ≡ suc (cap - (k + 1)) = omega arith in d)
         ∙ ap (answer_after P (λ S q. rounds_to P (cap - (k + 1)) S q) (has s.included)) (sym e)
 
-    told-by : (u : Turn) → t ≡ u → step_of u f ≡ round P (has s.included) (previous_of s)
-    told-by u e = ap (λ (x : Turn). step_of x f) (sym e) ∙ E
+    pub left-ends : (why : Refusal) → t ≡ std.Err why → refused why ≡ capped P cap
+    left-ends why e = sym (next (ends why) (ap step_by (sym e) ∙ E))
 
-    pub left-ends : (why : Refusal) → t ≡ Ends why → refused why ≡ capped P cap
-    left-ends why e = sym (next (ends why) (told-by (Ends why) e))
+    told-by : (u : code.Step) → t ≡ std.Ok u → (v : Turn) → u.turn ≡ v → step_of (std.Ok v) u.fit ≡ round P (has s.included) (previous_of s)
+    told-by u e v q = ap (λ (x : Turn). step_of (std.Ok x) u.fit) (sym q) ∙ ap step_by (sym e) ∙ E
 
-    pub left-settles : t ≡ Settles → closed (P.later (has s.included) f) ≡ capped P cap
-    left-settles e = sym (next (settles f) (told-by Settles e))
+    pub left-settles : (u : code.Step) → t ≡ std.Ok u → u.turn ≡ Settles → closed (P.later (has s.included) u.fit) ≡ capped P cap
+    left-settles u e q = sym (next (settles u.fit) (told-by u e Settles q))
 
-    pub left-changes : (m : ℕ) → t ≡ Changes m → (u : State) → u ≡ record { included = m; had = true; previous = f.params }
-        → Left cap (cap - (k + 1)) u
-    left-changes m e u i =
-        let step = told-by (Changes m) e in
-        left cap (cap - (k + 1)) (has m) (some f.params) u (ap (λ (x : State). has x.included) i) (ap previous_of i)
-        (next (changes (has m) f) step)
+    pub left-changes : (u : code.Step) → t ≡ std.Ok u → (m : ℕ) → u.turn ≡ Changes m → (v : State)
+        → v ≡ record { included = m; previous = std.Some u.fit.params } → Left cap (cap - (k + 1)) v
+    left-changes u e m q v i =
+        let step = told-by u e (Changes m) q in
+        left cap (cap - (k + 1)) (has m) (some u.fit.params) v (ap (λ (x : State). has x.included) i) (ap previous_of i)
+        (next (changes (has m) u.fit) step)
         (change-within P (subst (Says P (has s.included) (previous_of s)) (sym step)
         (round-says P (has s.included) (previous_of s) I.keeps)) I.keeps)
 

@@ -1,39 +1,14 @@
--- The outlier rule over an array of residuals: its loops, and that it comes to the same over residuals that are equal. Assumes nothing.
-use Rattle.std.proofs.Common.{◌≡◌, ℕ, ◌+◌, ◌<◌, Bool, true, false, not, ◌&&◌, T, ltb, ◌⊎◌, sym, refl, ap, ◌∙◌, subst, ap₂, inl, inr, add-one, arith, lt→ltb}
+-- The outlier rule over an array of residuals comes to the same over residuals that are equal. Assumes nothing.
+use Rattle.std.proofs.Common.{◌≡◌, ℕ, ◌<◌, Bool, true, false, not, ◌&&◌, T, ltb, ◌⊎◌, refl, ap, ◌∙◌, ap₂, inl, inr}
 use mathlib.Core.Option.{Option}
-use lib.Ieee.{Float, nan, inf, fin, lt, le, ne, is_nan}
-use lib.Ieee.Compare.{differs_from_itself}
-use Rattle.sets.specs.Sets.{Subset, count}
-use Rattle.sets.proofs.Tests.{T→eq, eq→T, and_l, same-T}
-use Rattle.sets.proofs.Counting.{count_same, count-pos}
+use lib.Ieee.{Float, lt, le, is_nan}
+use Rattle.sets.specs.Sets.{Subset}
+use Rattle.sets.proofs.Tests.{and_l}
+use Rattle.sets.proofs.Counting.{count_same}
 use Rattle.best.proofs.Cheapest.{same-choice}
 use Rattle.rounds.specs.Setting.{five}
 use Rattle.rounds.specs.Setting.{greater, less}
 use Rattle.rounds.specs.Rounds.{above, worst, readmissible, least, no_number, unnumbered, turned, decided}
-
--- ---- a residual that is not a number
-pub ne-nan : (x : Float) → ne x x ≡ is_nan x
-unfolding is_nan ne
-ne-nan x = same-T (ne x x) (is_nan x) (λ t. subst (λ (y : Float). T (is_nan y)) (sym (differs_from_itself x t)) there) (λ t. back x t)
-  where
-    there : T (is_nan nan)
-    there = tt
-
-    back : (y : Float) → T (is_nan y) → T (ne y y)
-    back nan t = tt
-    back (inf s) t = elim t [ ]
-    back (fin s m e) t = elim t [ ]
-
--- no test has passed yet, one passes, and none does
-pub none_yet : (q : Subset) (i : ℕ) → count q i ≡ 0 → q i ≡ false → count q (i + 1) ≡ 0
-unfolding count
-none_yet q i e f = rw (add-one, f) (omega (arith, e))
-
-pub one_found : (q : Subset) (i n : ℕ) → i < n → q i ≡ true → true ≡ ltb 0 (count q n)
-one_found q i n l e = sym (T→eq (ltb 0 (count q n)) (lt→ltb 0 (count q n) (count-pos q n i l (eq→T e))))
-
-pub none_found : (q : Subset) (n : ℕ) → count q n ≡ 0 → false ≡ ltb 0 (count q n)
-none_found q n e = sym (ap (ltb 0) e)
 
 -- ---- the rule reads the residuals of kept and included receptions only
 

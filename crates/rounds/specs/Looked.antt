@@ -1,9 +1,9 @@
 -- Document 02, item 2, "One look at the residuals": what the pass holds after the first k receptions, and what that
 -- is. Definitions and statements only: proofs/Looks.antt proves them.
-use Rattle.std.specs.Prelude.{◌≡◌, ℕ, ◌<◌, ◌≤◌, cond, not, T, ◌↔◌, is_nan, nat_lt, Float}
+use Rattle.std.specs.Prelude as std
+use Rattle.std.specs.Prelude.{◌≡◌, ℕ, ◌<◌, ◌≤◌, Bool, true, not, T, ◌↔◌, is_nan, Float}
 use Rattle.std.proofs.Math.Option.{Option, none, some}
 use Rattle.std.specs.Float.Ieee.{lt, le}
-use Rattle.binary64.specs.Steps.{nought}
 use Rattle.sets.specs.Sets.{Subset, most_receptions}
 use Rattle.sets.specs.Choice.{IsChoice}
 use Rattle.rounds.specs.declared.outliers.Choice.{Choice}
@@ -12,14 +12,20 @@ use Rattle.rounds.specs.Setting.{five}
 use Rattle.rounds.specs.Setting.{greater, less}
 use Rattle.rounds.specs.Rounds.{above, worst, readmissible, least}
 
--- a choice as the code holds it, its residual beside it: 32 and 0 where there is none
-abbrev pub held : (ℕ → Float) → Option ℕ → Choice
-held z none = record { at = most_receptions; z = nought }
-held z (some i) = record { at = i; z = z i }
+-- a choice as the code holds it, its residual beside it
+abbrev pub held : (ℕ → Float) → Option ℕ → std.Option Choice
+held z none = std.None
+held z (some i) = std.Some (record { at = i; z = z i })
 
 -- the reception that is held, if one is
-abbrev pub chosen_by : Choice → Option ℕ
-chosen_by c = cond (nat_lt c.at most_receptions) (some c.at) none
+abbrev pub chosen_by : std.Option Choice → Option ℕ
+chosen_by std.None = none
+chosen_by (std.Some c) = some c.at
+
+-- whether a residual is before the one that is held, in this order, or none is held
+abbrev pub goes_before : (Float → Float → Bool) → Float → std.Option Choice → Bool
+goes_before order x std.None = true
+goes_before order x (std.Some c) = order x c.z
 
 -- K are kept and S included, with the normalised residuals z
 module _ (K S : Subset) (z : ℕ → Float) where

@@ -21,7 +21,8 @@ use Rattle.best.specs.OfProblem.{Receptions, receptions_of, whitener_over, chose
 use Rattle.best.specs.OfProblem.{best_fit_over}
 use Rattle.record.specs.declared.content.Fix.{Fix}
 use Rattle.rounds.specs.declared.answer.Refusal.{Refusal}
-use Rattle.rounds.specs.declared.answer.Refusal.TheVariants.{TooFew, NoConvergence, OutOfRange, Inconsistent}
+use Rattle.rounds.specs.declared.answer.Refusal.TheVariants.{TooFew, NoConvergence, OutOfRange, NoFixedPoint}
+use Rattle.rounds.specs.declared.answer.Refusal.TheVariants.{Inconsistent}
 use Rattle.rounds.specs.declared.answer.Refusal.TheVariants.{Singular, Ambiguous, Uncertain}
 use Rattle.rounds.specs.declared.finish.Unpublished.{Unpublished}
 use Rattle.rounds.specs.declared.finish.Unpublished.TheVariants as unpublished
@@ -85,6 +86,7 @@ abbrev pub refusal_number : Refusal → ℕ
 refusal_number (TooFew included) = refusals.too_few
 refusal_number NoConvergence = refusals.no_convergence
 refusal_number OutOfRange = refusals.out_of_range
+refusal_number NoFixedPoint = refusals.no_fixed_point
 refusal_number Inconsistent = refusals.inconsistent
 refusal_number Singular = refusals.singular
 refusal_number Ambiguous = refusals.ambiguous
@@ -99,6 +101,7 @@ abbrev pub refusal_detail : Refusal → ℕ
 refusal_detail (TooFew included) = included
 refusal_detail NoConvergence = 0
 refusal_detail OutOfRange = 0
+refusal_detail NoFixedPoint = 0
 refusal_detail Inconsistent = 0
 refusal_detail Singular = 0
 refusal_detail Ambiguous = 0

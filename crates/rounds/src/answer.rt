@@ -1,96 +1,86 @@
-// The answers of document 01.
+// Why a solve gives no fix: the refusals of document 01 that the rounds meet.
 ghost use Rattle.std.specs.Prelude.{◌≡◌};
-ghost use Rattle.best.specs.Best.{Outcome};
-ghost use Rattle.record.specs.declared.content.Fix as content;
-ghost use Rattle.rounds.specs.declared.finish.Unpublished as finish;
-ghost use Rattle.rounds.specs.Setting.{refused, no_fixed_point, of_unfit, of_unpublished};
-ghost use Rattle.rounds.specs.Rounds.{closed};
-ghost use Rattle.rounds.specs.Held.{as_finished, as_answer};
+ghost use Rattle.refusals.specs.Refusals as refusals;
+ghost use Rattle.rounds.specs.Solve.{refusal_number, refusal_detail};
+ghost use Rattle.rounds.specs.Setting.{of_unfit, of_unpublished};
 
-use crate::finish::{Finished, Unpublished, nothing};
+use crate::finish::Unpublished;
 use best::Unfit;
-use record::Fix;
 
-// Why a solve gives no fix, but for no fixed point: 1, 2, 3, 5, 6, 8 and 9 of document 01. Too few says
-// how many are included.
-#[derive(Clone, Copy)]
+// 1 to 6, 8 and 9 of document 01. Too few says how many are included.
+#[derive(Clone, Copy, Debug, PartialEq, Eq)]
 pub enum Refusal {
     TooFew(u32),
     NoConvergence,
     OutOfRange,
+    NoFixedPoint,
     Inconsistent,
     Singular,
     Ambiguous,
     Uncertain,
 }
 
-#[derive(Clone, Copy)]
-pub enum Case {
-    Fix,
-    Refused(Refusal),
-    NoFixedPoint,
-}
+impl Refusal {
+    // Its number in document 01.
+    pub fn number(self) -> u32
+        ensures { result ≡ refusal_number self }
+    {
+        refusals::Refusal::from(self).number()
+    }
 
-// A fix, or why there is none, with `nothing` beside it.
-#[derive(Clone, Copy)]
-pub struct Answer {
-    pub case: Case,
-    pub fix: Fix,
-}
-
-pub fn refused(why: Refusal) -> Answer
-    ensures { result ≡ as_answer (refused why) }
-{
-    Answer {
-        case: Case::Refused(why),
-        fix: nothing(),
+    // Its detail in document 01.
+    pub fn detail(self) -> u32
+        ensures { result ≡ refusal_detail self }
+    {
+        match self {
+            Refusal::TooFew(included) => included,
+            _ => 0,
+        }
     }
 }
 
-pub fn no_fixed_point() -> Answer
-    ensures { result ≡ as_answer no_fixed_point }
-{
-    Answer {
-        case: Case::NoFixedPoint,
-        fix: nothing(),
+// As document 01 lists them.
+impl From<Refusal> for refusals::Refusal {
+    ghost from_gives = { λ why e. refusals.number_of e ≡ refusal_number why };
+
+    fn from(why: Refusal) -> refusals::Refusal {
+        match why {
+            Refusal::TooFew(_) => refusals::Refusal::TooFew,
+            Refusal::NoConvergence => refusals::Refusal::NoConvergence,
+            Refusal::OutOfRange => refusals::Refusal::OutOfRange,
+            Refusal::NoFixedPoint => refusals::Refusal::NoFixedPoint,
+            Refusal::Inconsistent => refusals::Refusal::Inconsistent,
+            Refusal::Singular => refusals::Refusal::Singular,
+            Refusal::Ambiguous => refusals::Refusal::Ambiguous,
+            Refusal::Uncertain => refusals::Refusal::Uncertain,
+        }
     }
 }
 
-// The refusal by what a best fit met.
-pub fn of_unfit(why: Unfit) -> Refusal
-    ensures { result ≡ of_unfit why }
-{
-    match why {
-        Unfit::NoConvergence => Refusal::NoConvergence,
-        Unfit::OutOfRange => Refusal::OutOfRange,
-        Unfit::Ambiguous => Refusal::Ambiguous,
-        Unfit::Singular => Refusal::Singular,
+// By what a best fit met.
+impl From<Unfit> for Refusal {
+    ghost from_gives = { λ why e. e ≡ of_unfit why };
+
+    fn from(why: Unfit) -> Refusal {
+        match why {
+            Unfit::NoConvergence => Refusal::NoConvergence,
+            Unfit::OutOfRange => Refusal::OutOfRange,
+            Unfit::Ambiguous => Refusal::Ambiguous,
+            Unfit::Singular => Refusal::Singular,
+        }
     }
 }
 
-// The refusal by what the steps after the rounds met.
-fn of_unpublished(why: Unpublished) -> Refusal
-    ensures { result ≡ of_unpublished why }
-{
-    match why {
-        Unpublished::Inconsistent => Refusal::Inconsistent,
-        Unpublished::Singular => Refusal::Singular,
-        Unpublished::Uncertain => Refusal::Uncertain,
-        Unpublished::OutOfRange => Refusal::OutOfRange,
-    }
-}
+// By what the steps after the rounds met.
+impl From<Unpublished> for Refusal {
+    ghost from_gives = { λ why e. e ≡ of_unpublished why };
 
-// The answer once the rounds are settled.
-pub fn of_finished(f: Finished) -> Answer
-    ensures { (o : Outcome finish.Unpublished content.Fix) → f ≡ as_finished o → result ≡ as_answer (closed o) }
-{
-    if f.published {
-        let fix = f.fix;
-        return Answer {
-            case: Case::Fix,
-            fix,
-        };
+    fn from(why: Unpublished) -> Refusal {
+        match why {
+            Unpublished::Inconsistent => Refusal::Inconsistent,
+            Unpublished::Singular => Refusal::Singular,
+            Unpublished::Uncertain => Refusal::Uncertain,
+            Unpublished::OutOfRange => Refusal::OutOfRange,
+        }
     }
-    let why = f.why;
-    refused(of_unpublished(why))
 }

@@ -7,9 +7,8 @@ ghost use Rattle.binary64.specs.Steps.{nought};
 ghost use Rattle.geo.specs.Geo.{from_ecef};
 ghost use Rattle.problem.specs.Problem.{position};
 ghost use Rattle.limits.specs.Local.{published};
-ghost use Rattle.best.specs.Best.{refuses};
 ghost use Rattle.rounds.specs.Finish.{wide, certain, fix_of, finish};
-ghost use Rattle.rounds.specs.Held.{nothing, as_finished};
+ghost use Rattle.rounds.specs.Held.{as_result};
 
 use crate::moment::transmit;
 use damped::Fit;
@@ -27,46 +26,6 @@ pub enum Unpublished {
     Singular,
     Uncertain,
     OutOfRange,
-}
-
-// A fix, or why there is none, with `nothing` beside it.
-#[derive(Clone, Copy)]
-pub struct Finished {
-    pub published: bool,
-    pub why: Unpublished,
-    pub fix: Fix,
-}
-
-// What stands in the place of a fix where there is none: it uses no reception.
-pub fn nothing() -> Fix
-    ensures { result ≡ nothing }
-{
-    Fix {
-        mask: 0,
-        dof: 0,
-        ecef: [0.0; 3],
-        t: 0.0,
-        position: Geodetic {
-            lat_deg: 0.0,
-            lon_deg: 0.0,
-            height_m: 0.0,
-        },
-        transmit_ps: 0,
-        r0: [0.0; 3],
-        r1: [0.0; 3],
-        r2: [0.0; 3],
-        chi2: 0.0,
-    }
-}
-
-pub fn withheld(why: Unpublished) -> Finished
-    ensures { result ≡ as_finished (refuses why) }
-{
-    Finished {
-        published: false,
-        why,
-        fix: nothing(),
-    }
 }
 
 // Whether a variance is above MAX_SIGMA_M squared, along any axis.
@@ -137,28 +96,26 @@ fn fix_of(mask: u32, dof: u32, fit: Fit, place: Geodetic, c: [[f64; 3]; 3], tran
 
 // The fix of the receptions in the mask, with so many degrees of freedom and at this place, or why it is not
 // published.
-pub fn finish(mask: u32, dof: u32, reference_ps: i64, fit: Fit, place: Geodetic) -> Finished
+pub fn finish(
+    mask: u32,
+    dof: u32,
+    reference_ps: i64,
+    fit: Fit,
+    place: Geodetic,
+) -> Result<Fix, Unpublished>
     requires { place ≡ from_ecef (position fit.params) }
-    ensures { result ≡ as_finished (finish mask dof reference_ps fit) }
+    ensures { result ≡ as_result (finish mask dof reference_ps fit) }
 {
     let information = fit.information;
     let params = fit.params;
     let mut l = [0.0; 16];
-    if factor(&information, &mut l) {
-        let c = covariance(&l);
-        if certain(c) {
-            let time = transmit(reference_ps, params[3]);
-            if time.held {
-                let fix = fix_of(mask, dof, fit, place, c, time.ps);
-                return Finished {
-                    published: true,
-                    why: Unpublished::OutOfRange,
-                    fix,
-                };
-            }
-            return withheld(Unpublished::OutOfRange);
-        }
-        return withheld(Unpublished::Uncertain);
+    if !factor(&information, &mut l) {
+        return Err(Unpublished::Singular);
     }
-    withheld(Unpublished::Singular)
+    let c = covariance(&l);
+    if !certain(c) {
+        return Err(Unpublished::Uncertain);
+    }
+    let transmit_ps = transmit(reference_ps, params[3]).ok_or(Unpublished::OutOfRange)?;
+    Ok(fix_of(mask, dof, fit, place, c, transmit_ps))
 }

@@ -4,15 +4,14 @@ ghost use Rattle.sets.specs.Mask.{has};
 ghost use Rattle.best.specs.Held.{receptions};
 ghost use Rattle.rounds.specs.Held.{gathered, previous_of, held_over};
 
-use best::BestAt;
+use best::{BestAt, Unfit};
 use problem::Altitude;
 
-// The included receptions, and the parameters that the round before found if it `had` any.
+// The included receptions, and the parameters that the round before found, if there was one.
 #[derive(Clone, Copy)]
 pub struct State {
     pub included: u32,
-    pub had: bool,
-    pub previous: [f64; 4],
+    pub previous: Option<[f64; 4]>,
 }
 
 // k receptions by their indices, sites and times.
@@ -52,15 +51,16 @@ pub fn fit_included(
     n: usize,
     altitude: Altitude,
     state: State,
-) -> BestAt
+) -> Result<BestAt, Unfit>
     requires { n ≤ 32 }
     ensures { result ≡ held_over
         (receptions site.now z.now noise.now clock.now n altitude)
         (has state.included) (previous_of state) }
 {
     let included = state.included;
-    let had = state.had;
-    let previous = state.previous;
+    // `starts` takes whether there was a round before beside its parameters.
+    let had = state.previous.is_some();
+    let previous = state.previous.unwrap_or([0.0; 4]);
     let chosen = subset(site, z, n, included);
     let k = chosen.k;
     let index = chosen.index;

@@ -9,8 +9,7 @@ mod outliers;
 mod round;
 mod settled;
 
-ghost use Rattle.std.specs.Prelude.{◌≡◌, ℕ, ◌^◌, ◌<◌, ◌≤◌, Bool, true, false, replicate};
-ghost use Rattle.binary64.specs.Steps.{nought};
+ghost use Rattle.std.specs.Prelude.{◌≡◌, ℕ, ◌^◌, ◌<◌, ◌≤◌};
 ghost use Rattle.sets.specs.Mask.{has};
 ghost use Rattle.screen.specs.Screen as screen;
 ghost use Rattle.best.specs.Held.{receptions};
@@ -19,39 +18,14 @@ ghost use Rattle.rounds.specs.Solve.{setting_of, kept_at, solve_problem};
 ghost use Rattle.rounds.specs.Unmoved.{capped};
 ghost use Rattle.rounds.specs.Held.{as_answer};
 
-pub use answer::{Answer, Case, Refusal};
-use answer::{no_fixed_point, of_finished, refused};
-use damped::Fit;
+pub use answer::Refusal;
 use fitting::State;
 use outliers::Turn;
 pub use outliers::residuals;
 use problem::{Altitude, Problem};
+use record::Fix;
 use round::round;
 use settled::settled;
-
-// The rounds start with all kept receptions, and no round before.
-fn first(kept: u32) -> State
-    ensures { result ≡ record { included = kept; had = false; previous = replicate 4 nought } }
-{
-    let previous = [0.0; 4];
-    State {
-        included: kept,
-        had: false,
-        previous,
-    }
-}
-
-// The rounds go on with the included receptions, after one with this fit.
-fn changed(included: u32, fit: Fit) -> State
-    ensures { result ≡ record { included = included; had = true; previous = fit.params } }
-{
-    let previous = fit.params;
-    State {
-        included,
-        had: true,
-        previous,
-    }
-}
 
 // The outlier rule under a cap on rounds, from 0 up: no fixed point where that many each made a change. Each round
 // starts from the last one's fit.
@@ -65,37 +39,33 @@ fn outlier_rounds(
     reference: i64,
     kept: u32,
     cap: u32,
-) -> Answer
+) -> Result<Fix, Refusal>
     requires { (n ≤ 32) × (kept < 2 ^ n) }
     ensures { result ≡ as_answer (capped
         (setting_of (receptions site.now z.now noise.now clock.now n
         altitude) (has kept) reference) cap) }
 {
-    let mut state = first(kept);
-    let mut k = 0u32;
-    while k < cap {
-        let step = round(site, z, noise, clock, n, altitude, kept, state);
-        let turn = step.turn;
+    let mut state = State {
+        included: kept,
+        previous: None,
+    };
+    for k in 0..cap {
+        let step = round(site, z, noise, clock, n, altitude, kept, state)?;
         let fit = step.fit;
-        let place = step.place;
-        let norm = step.norm;
-        let used = state.included;
-        match turn {
-            Turn::Ends(why) => {
-                return refused(why);
-            }
+        match step.turn {
             Turn::Changes(included) => {
-                state = changed(included, fit);
-                k += 1;
-                continue;
+                state = State {
+                    included,
+                    previous: Some(fit.params),
+                };
             }
             Turn::Settles => {
-                let end = settled(altitude, reference, used, fit, place, norm);
-                return of_finished(end);
+                let used = state.included;
+                return Ok(settled(altitude, reference, used, fit, step.place, step.norm)?);
             }
         }
     }
-    no_fixed_point()
+    Err(Refusal::NoFixedPoint)
 }
 
 // Solves one transmission's problem, whose arrays are lent: of s kept receptions under a cap of 2s + 2 rounds.
@@ -109,7 +79,7 @@ pub fn solve_lent<'a>(
     n: usize,
     altitude: Altitude,
     reference_ps: i64,
-) -> Answer
+) -> Result<Fix, Refusal>
     requires { n ≤ 32 }
     ensures { result ≡ as_answer (outlier_rounds
         (setting_of (receptions site.now z.now noise.now clock.now n
@@ -121,7 +91,7 @@ pub fn solve_lent<'a>(
 }
 
 // Solves one transmission's problem.
-pub fn solve_problem(p: Problem) -> Answer
+pub fn solve_problem(p: Problem) -> Result<Fix, Refusal>
     requires { p.n ≤ 32 }
     ensures { result ≡ as_answer (solve_problem p) }
 {

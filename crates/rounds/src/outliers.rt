@@ -1,5 +1,5 @@
 // The outlier rule: normalised residuals, and what they decide.
-ghost use Rattle.std.specs.Prelude.{◌≡◌, ℕ, ◌+◌, ◌^◌, ◌<◌, ◌≤◌, cond, ◌&&◌, ◌||◌, replicate, nat_le, Float};
+ghost use Rattle.std.specs.Prelude.{◌≡◌, ℕ, ◌+◌, ◌^◌, ◌<◌, ◌≤◌, cond, ◌&&◌, replicate, Some, Ok, Float};
 ghost use Rattle.std.specs.Float.Ieee.{lt, le};
 ghost use Rattle.binary64.specs.Steps.{nought};
 ghost use Rattle.dense.specs.Entries.{nth};
@@ -12,20 +12,18 @@ ghost use Rattle.best.specs.Held.{receptions};
 ghost use Rattle.rounds.specs.declared.outliers.Turn.TheVariants.{Changes};
 ghost use Rattle.rounds.specs.Setting.{five};
 ghost use Rattle.rounds.specs.Rounds.{no_number, unnumbered, decided};
-ghost use Rattle.rounds.specs.Looked.{looked_to};
+ghost use Rattle.rounds.specs.Looked.{goes_before, looked_to};
 ghost use Rattle.rounds.specs.Solve.{normalised};
 ghost use Rattle.rounds.specs.Held.{step_of};
 
 use crate::Refusal;
-use sets::NONE;
 
 // The threshold on a reception's normalised residual: of solve.rs.
 const OUTLIER_Z: f64 = 5.0;
 
-// What a round comes to, beside its fit: a refusal, other receptions included, or neither.
+// What a round comes to, beside its fit: other receptions included, or none.
 #[derive(Clone, Copy)]
 pub enum Turn {
-    Ends(Refusal),
     Changes(u32),
     Settles,
 }
@@ -62,11 +60,7 @@ fn no_number(kept: u32, z: &[f64; 32], i: usize) -> bool
     requires { i < 32 }
     ensures { result ≡ no_number (has kept) (nth z.now) i }
 {
-    if sets::has(kept, i) {
-        let x = z[i];
-        return x != x;
-    }
-    false
+    sets::has(kept, i) && z[i].is_nan()
 }
 
 // Whether a kept reception's residual is not a number.
@@ -74,15 +68,10 @@ fn unnumbered(kept: u32, z: &[f64; 32], n: usize) -> bool
     requires { n ≤ 32 }
     ensures { result ≡ unnumbered (has kept) (nth z.now) n }
 {
-    for i in 0..n {
-        if no_number(kept, z, i) {
-            return true;
-        }
-    }
-    false
+    (0..n).any(|i| no_number(kept, z, i))
 }
 
-// A chosen reception and its residual: NONE and 0 where there is none.
+// A chosen reception and its residual.
 #[derive(Clone, Copy)]
 pub struct Choice {
     pub at: usize,
@@ -93,63 +82,48 @@ pub struct Choice {
 // left-out one not above it.
 #[derive(Clone, Copy)]
 pub struct Choices {
-    pub worst: Choice,
-    pub least: Choice,
-}
-
-// Nothing looked at.
-fn none_yet() -> Choices
-    ensures { (K S : Subset) (z : ℕ → Float) → result ≡ looked_to K S z 0 }
-{
-    let worst = Choice { at: NONE, z: 0.0 };
-    let least = Choice { at: NONE, z: 0.0 };
-    Choices { worst, least }
+    pub worst: Option<Choice>,
+    pub least: Option<Choice>,
 }
 
 // Whether x is greater than the worst so far, or there is none.
-fn greater(x: f64, worst: Choice) -> bool
-    ensures { result ≡ (nat_le 32 worst.at || lt worst.z x) }
+fn greater(x: f64, worst: Option<Choice>) -> bool
+    ensures { result ≡ goes_before (λ a b. lt b a) x worst }
 {
-    if worst.at < NONE {
-        return x > worst.z;
+    match worst {
+        Some(top) => x > top.z,
+        None => true,
     }
-    true
 }
 
 // The worst, one included reception further: i, with the residual x.
-fn worst_with(worst: Choice, i: usize, x: f64) -> Choice
-    ensures { result ≡ cond (lt five x && (nat_le 32 worst.at || lt worst.z x))
-        (record { at = i; z = x }) worst }
+fn worst_with(worst: Option<Choice>, i: usize, x: f64) -> Option<Choice>
+    ensures { result ≡ cond (lt five x && goes_before (λ a b. lt b a) x worst)
+        (Some (record { at = i; z = x })) worst }
 {
-    if x > OUTLIER_Z {
-        if greater(x, worst) {
-            return Choice { at: i, z: x };
-        }
-        return worst;
+    if x > OUTLIER_Z && greater(x, worst) {
+        return Some(Choice { at: i, z: x });
     }
     worst
 }
 
 // Whether x is less than the least so far, or there is none.
-fn less(x: f64, least: Choice) -> bool
-    ensures { result ≡ (nat_le 32 least.at || lt x least.z) }
+fn less(x: f64, least: Option<Choice>) -> bool
+    ensures { result ≡ goes_before lt x least }
 {
-    if least.at < NONE {
-        return x < least.z;
+    match least {
+        Some(top) => x < top.z,
+        None => true,
     }
-    true
 }
 
 // The least, one left-out reception further: i, with the residual x.
-fn least_with(least: Choice, i: usize, x: f64) -> Choice
-    ensures { result ≡ cond (le x five && (nat_le 32 least.at || lt x least.z))
-        (record { at = i; z = x }) least }
+fn least_with(least: Option<Choice>, i: usize, x: f64) -> Option<Choice>
+    ensures { result ≡ cond (le x five && goes_before lt x least)
+        (Some (record { at = i; z = x })) least }
 {
-    if x <= OUTLIER_Z {
-        if less(x, least) {
-            return Choice { at: i, z: x };
-        }
-        return least;
+    if x <= OUTLIER_Z && less(x, least) {
+        return Some(Choice { at: i, z: x });
     }
     least
 }
@@ -182,7 +156,10 @@ fn looked(kept: u32, included: u32, z: &[f64; 32], k: usize) -> Choices
     requires { k ≤ 32 }
     ensures { result ≡ looked_to (has kept) (has included) (nth z.now) k }
 {
-    let mut seen = none_yet();
+    let mut seen = Choices {
+        worst: None,
+        least: None,
+    };
     for i in 0..k {
         seen = look(seen, kept, included, i, z[i]);
     }
@@ -190,24 +167,20 @@ fn looked(kept: u32, included: u32, z: &[f64; 32], k: usize) -> Choices
 }
 
 // What the residuals decide: 6 where one is not a number, then a removal, then a return.
-pub fn decided(kept: u32, included: u32, z: &[f64; 32], n: usize) -> Turn
+pub fn decided(kept: u32, included: u32, z: &[f64; 32], n: usize) -> Result<Turn, Refusal>
     requires { (n ≤ 32) × (included < 2 ^ n) }
     ensures { ((f : fit.Fit) → step_of result f ≡ decided (has kept) (has included) (nth z.now) n f)
-        × ((m : ℕ) → result ≡ Changes m → m < 2 ^ n) }
+        × ((m : ℕ) → result ≡ Ok (Changes m) → m < 2 ^ n) }
 {
     if unnumbered(kept, z, n) {
-        return Turn::Ends(Refusal::Singular);
+        return Err(Refusal::Singular);
     }
     let chosen = looked(kept, included, z, n);
-    let worst = chosen.worst;
-    let least = chosen.least;
-    let out = worst.at;
-    if out < NONE {
-        return Turn::Changes(sets::without(included, out));
+    if let Some(worst) = chosen.worst {
+        return Ok(Turn::Changes(sets::without(included, worst.at)));
     }
-    let back = least.at;
-    if back < NONE {
-        return Turn::Changes(sets::joined(included, back));
+    if let Some(least) = chosen.least {
+        return Ok(Turn::Changes(sets::joined(included, least.at)));
     }
-    Turn::Settles
+    Ok(Turn::Settles)
 }

@@ -5,14 +5,15 @@ ghost use Rattle.sets.specs.Mask.{has};
 ghost use Rattle.geo.specs.Geo.{from_ecef};
 ghost use Rattle.problem.specs.Problem.{position};
 ghost use Rattle.limits.specs.Limits as limits;
-ghost use Rattle.rounds.specs.Held.{as_finished, NormOf};
+ghost use Rattle.rounds.specs.Held.{as_result, NormOf};
 ghost use Rattle.best.specs.OfProblem.{Receptions};
 ghost use Rattle.rounds.specs.Solve.{has_altitude, later};
 
-use crate::finish::{Finished, Unpublished, finish, withheld};
+use crate::finish::{Unpublished, finish};
 use damped::Fit;
 use geo::Geodetic;
 use problem::Altitude;
+use record::Fix;
 
 fn has_altitude(altitude: Altitude) -> bool
     ensures { result ≡ has_altitude altitude }
@@ -53,14 +54,14 @@ pub fn settled(
     fit: Fit,
     place: Geodetic,
     norm: f64,
-) -> Finished
+) -> Result<Fix, Unpublished>
     requires { place ≡ from_ecef (position fit.params) }
     ensures { (R : Receptions) → R.n ≤ 32 → included < 2 ^ R.n → altitude ≡ R.altitude
-        → NormOf R (has included) fit norm → result ≡ as_finished (later R reference_ps (has included) fit) }
+        → NormOf R (has included) fit norm → result ≡ as_result (later R reference_ps (has included) fit) }
 {
     let dof = dof(included, altitude);
     if fit.cost > limits::published_chi2_limit(dof, norm) {
-        return withheld(Unpublished::Inconsistent);
+        return Err(Unpublished::Inconsistent);
     }
     finish(included, dof, reference_ps, fit, place)
 }

@@ -3,9 +3,9 @@ use mathlib.Core.Path.{◌≡◌, refl, sym, ap, ap₂, ◌∙◌}
 use mathlib.Core.Bool.{Bool, true, not}
 use mathlib.Core.List.{List}
 use Prim.Native.Nat.{ℕ, ◌+◌, ◌-◌, ◌*◌, ◌/◌, ◌^◌, ◌≤◌, ◌<◌}
-use native.Mathlib.Nat.{le_trans, lt_of_le_of_lt, le-add_right, mul-le-mul}
+use native.Mathlib.Nat.{le_trans, mul-le-mul}
 use native.Mathlib.Omega.{arith}
-use lib.Dec.{leb, leb→le, le→leb, lit<}
+use lib.Dec.{leb, leb→le, le→leb}
 use lib.IntN.{ℤ}
 use lib.Bits.{bit_or}
 use borrow.Author.Tests.{le-leb}
@@ -59,20 +59,6 @@ small-square d l = let h : d ≤ 2 ^ 31 = omega arith in mul-le-mul h h
 -- one axis alone may
 pub axis-reaches : (t x n : ℕ) → t ≤ x → x * x ≤ n → true ≡ leb t (floor_root n)
 axis-reaches t x n l h = sym (le-leb t (floor_root n) (le_trans l ((greatest-root n).greatest x h)))
-
--- where none does, the three squares fit two words
-module _ (t x y z : ℕ) (s : t < 2 ^ 63) (lx : x < t) (ly : y < t) (lz : z < t) where
-  square_le : (d : ℕ) → d < t → d * d ≤ 2 ^ 63 * 2 ^ 63
-  square_le d l = let h : d ≤ 2 ^ 63 = omega arith in mul-le-mul h h
-
-  sum_lt : (q p a b c : ℕ) → a ≤ q → b ≤ q → c ≤ q → q + q + q < p → a + b + c < p
-  sum_lt q p a b c ha hb hc h = omega arith
-
-  three : x * x + y * y + z * z < 2 ^ 128
-  three = sum_lt (2 ^ 63 * 2 ^ 63) (2 ^ 128) (x * x) (y * y) (z * z) (square_le x lx) (square_le y ly) (square_le z lz) (lit< tt)
-
-  pub squares-fit : (x * x + y * y < 2 ^ 128) × (x * x + y * y + z * z < 2 ^ 128)
-  squares-fit = (lt_of_le_of_lt (le-add_right (x * x + y * y) (z * z)) three, three)
 
 -- ---- a pair, as the code tests it
 module _ (times sites : List ℤ) (i j : ℕ) where

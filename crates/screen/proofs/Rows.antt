@@ -6,10 +6,13 @@ use mathlib.Core.List.{List}
 use Prim.Native.Nat.{ℕ, zero, suc, ◌+◌, ◌≤◌, ◌<◌}
 use native.Mathlib.Omega.{arith}
 use lib.Dec.{T, T_not, ltb, ltb→lt, lt→ltb, nltb→le}
-use lib.ListN.{get_or, length, set, length-set, replicate}
+use lib.ListN.{get_or, length, set, length-set, replicate, take}
 use lib.Seq.{get_or-set_same, get_or-set_other}
 use lib.IntN.{ℤ}
 use borrow.Author.Tests.{lt-ltb, le-ltb}
+use Rattle.std.specs.List.{All}
+use Rattle.std.proofs.lemmas.List.Elements.{All-get_or}
+use Rattle.std.proofs.lemmas.List.{length-take-le, get_or-take}
 use Rattle.sets.specs.Sets.{Subset, first, joined}
 use Rattle.sets.specs.Mask.{has}
 use Rattle.sets.proofs.Tests.{either, eq→T, eq→F, and_l, and_r, and_both, lt-suc-cases}
@@ -29,12 +32,8 @@ zeros (suc k) (suc a) = zeros k a
 abbrev pub Bare : List ℕ → ℕ → Type 0
 Bare rows i = (j : ℕ) → j < i → get_or rows j 0 ≡ 0
 
-pub bare-next : (rows : List ℕ) (i : ℕ) → get_or rows i 0 ≤ 0 → Bare rows i → Bare rows (i + 1)
-bare-next rows i l b j k = go (lt-suc-cases j i (omega arith))
-  where
-    go : (j ≡ i) ⊎ (j < i) → get_or rows j 0 ≡ 0
-    go (inl e) = subst (λ (x : ℕ). get_or rows x 0 ≡ 0) (sym e) (omega arith)
-    go (inr h) = b j h
+pub bare-all : (rows : List ℕ) (n : ℕ) → n ≤ length rows → All (λ (x : ℕ). x ≡ 0) (take n rows) → Bare rows n
+bare-all rows n h a j l = sym (get_or-take n rows j 0 l) ∙ All-get_or (λ (x : ℕ). x ≡ 0) (take n rows) j 0 (rw (length-take-le n rows h) l) a
 
 pub bare-clear : (rows : List ℕ) (n : ℕ) → Bare rows n → Clear n (pairs_of rows) (first n)
 unfolding pairs_of

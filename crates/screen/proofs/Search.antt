@@ -1,17 +1,20 @@
 -- How the code finds the one that goes, and removes one after another. Assumes nothing.
 use mathlib.Core.Path.{◌≡◌, refl, sym, ap, subst, ◌∙◌}
 use mathlib.Core.Logic.{◌⊎◌, inl, inr}
+use mathlib.Core.Option as maybe
 use mathlib.Core.Option.{none, some, Option-elim}
-use mathlib.Core.Bool.{Bool, true, false, not}
+use mathlib.Core.Bool.{Bool, true, not}
 use Prim.Native.Nat.{ℕ, suc, ◌+◌, ◌≤◌, ◌<◌}
+use native.Mathlib.Numerals.{add-one}
 use native.Mathlib.Omega.{arith}
-use lib.Dec.{T, ltb, ltb→lt, nltb→le}
+use lib.Dec.{T, ltb, ltb→lt}
 use borrow.Author.Tests.{lt-ltb, le-ltb}
+use Rattle.std.specs.Prelude.{Option, None, Some}
+use Rattle.std.proofs.lemmas.Option.{none-some, same_Some}
 use Rattle.sets.specs.Sets.{Subset, first, without}
-use Rattle.sets.specs.Choice.{choose}
-use Rattle.sets.specs.Held.{index_of}
-use Rattle.sets.proofs.Tests.{either}
-use Rattle.sets.proofs.Choosing.{chosen_none, chosen-some, skips, begins, takes, leaves}
+use Rattle.sets.specs.Choice.{consider, choose}
+use Rattle.sets.specs.Held.{option_of}
+use Rattle.sets.proofs.Tests.{either, T→eq, F→eq}
 use Rattle.screen.specs.Screen.{clashes, goes, alive_to}
 use Rattle.screen.specs.State.{Held, Counted, most_clashing, lessened, held_to}
 use Rattle.screen.specs.Meaning.{Goes}
@@ -26,45 +29,48 @@ module _ (counts : ℕ → ℕ) where
   abbrev pub beats : ℕ → ℕ → Bool
   beats i j = ltb (counts j) (counts i)
 
+  -- the number of a choice, 0 of none
+  abbrev pub number : Option ℕ → ℕ
+  number None = 0
+  number (Some w) = counts w
+
   -- w is the choice among those below i, and `most` its number, or 0 with none
-  pub record Best (i w most : ℕ) : Type 0 where
-    pub index : w ≡ index_of (choose above beats i)
-    pub found : w < 32 → most ≡ counts w
-    pub nothing : 32 ≤ w → most ≡ 0
+  pub record Best (i : ℕ) (w : Option ℕ) (most : ℕ) : Type 0 where
+    pub index : w ≡ option_of (choose above beats i)
+    pub found : most ≡ number w
 
-  pub best-start : Best 0 32 0
+  pub best-start : Best 0 None 0
   unfolding choose
-  best-start = record { index = refl; found = λ l. absurd (omega arith); nothing = λ l. refl }
+  best-start = record { index = refl; found = refl }
 
-  pub best-end : (n w most : ℕ) → Best n w most → w ≡ index_of (most_clashing n counts)
+  pub best-end : (n most : ℕ) (w : Option ℕ) → Best n w most → w ≡ option_of (most_clashing n counts)
   unfolding most_clashing
-  best-end n w most b = b.index
+  best-end n most w b = b.index
 
-  -- one more, c is its number
-  module _ (i w most c : ℕ) (s : i < 32) (e : c ≡ counts i) (b : Best i w most) where
-    pub best_takes : most < c → Best (i + 1) i c
-    best_takes k = record {
-      index = go (either (ltb w 32)) (lt-ltb 0 (counts i) (omega arith));
-      found = λ q. e;
-      nothing = λ q. absurd (omega arith);
-    }
+  -- c is its number
+  module _ (i : ℕ) (w : Option ℕ) (most c : ℕ) (e : c ≡ counts i) (b : Best i w most) where
+    pub best_takes : most < c → Best (i + 1) (Some i) c
+    unfolding choose consider
+    best_takes k = record { index = go (choose above beats i) refl (lt-ltb 0 (counts i) (omega arith)); found = e }
       where
-        go : T (ltb w 32) ⊎ T (not (ltb w 32)) → above i ≡ true → i ≡ index_of (choose above beats (i + 1))
-        go (inl t) p =
-            let q = ltb→lt w 32 t in
-            takes above beats i w (omega arith) b.index p q (lt-ltb (counts w) (counts i) (omega (arith, b.found q)))
-        go (inr t) p = begins above beats i w (omega arith) b.index p (nltb→le w 32 t)
+        go : (o : maybe.Option ℕ) → choose above beats i ≡ o → above i ≡ true → Some i ≡ option_of (choose above beats (i + 1))
+        go none q p = rw (add-one i, q, p) refl
+        go (some j) q p =
+            let h : most ≡ counts j = b.found ∙ ap number (b.index ∙ ap option_of q) in
+            rw (add-one i, q, p, lt-ltb (counts j) (counts i) (omega arith)) refl
 
     pub best-leaves : c ≤ most → Best (i + 1) w most
-    best-leaves k = record { index = go (either (above i)) (either (ltb w 32)); found = b.found; nothing = b.nothing }
+    unfolding choose consider
+    best-leaves k = record { index = b.index ∙ go (choose above beats i) refl (either (above i)); found = b.found }
       where
-        go : T (above i) ⊎ T (not (above i)) → T (ltb w 32) ⊎ T (not (ltb w 32)) → w ≡ index_of (choose above beats (i + 1))
-        go (inr p) q = skips above beats i w (omega arith) b.index (le-ltb 0 (counts i) (nltb→le 0 (counts i) p))
-        go (inl p) (inr q) = absurd (omega (arith, ltb→lt 0 (counts i) p, b.nothing (nltb→le w 32 q)))
-        go (inl p) (inl q) =
-            let l = ltb→lt w 32 q in
-            let worse : beats i w ≡ false = le-ltb (counts w) (counts i) (omega (arith, b.found l)) in
-            leaves above beats i w (omega arith) b.index (lt-ltb 0 (counts i) (ltb→lt 0 (counts i) p)) l worse
+        go : (o : maybe.Option ℕ) → choose above beats i ≡ o → T (above i) ⊎ T (not (above i)) → option_of o ≡ option_of (choose above beats (i + 1))
+        go o q (inr p) = rw (add-one i, q, F→eq (above i) p) refl
+        go none q (inl p) =
+            let h : most ≡ 0 = b.found ∙ ap number (b.index ∙ ap option_of q) in
+            absurd (omega (arith, ltb→lt 0 (counts i) p))
+        go (some j) q (inl p) =
+            let h : most ≡ counts j = b.found ∙ ap number (b.index ∙ ap option_of q) in
+            rw (add-one i, q, T→eq (above i) p, le-ltb (counts j) (counts i) (omega arith)) refl
 
 -- ---- the loop of removals
 
@@ -90,20 +96,26 @@ module _ (n : ℕ) (fails : ℕ → ℕ → Bool) (k : ℕ) (s : Held) (e : s �
   named : most_clashing n s.counts ≡ goes n fails (alive_to n fails k)
   named = most-goes n fails s held-true held_below ∙ ap (goes n fails) held-alive
 
-  -- w is what the code finds
-  module _ (w : ℕ) (m : n ≤ 32) (q : w ≡ index_of (most_clashing n s.counts)) where
-    pub none-goes : 32 ≤ w → goes n fails (alive_to n fails k) ≡ none
-    unfolding most_clashing
-    none-goes l = sym named ∙ chosen_none (above s.counts) (beats s.counts) n w m q l
+  -- what the code finds
+  pub none-goes : None ≡ option_of (most_clashing n s.counts) → goes n fails (alive_to n fails k) ≡ none
+  none-goes q = go (most_clashing n s.counts) named q
+    where
+      go : (o : maybe.Option ℕ) → o ≡ goes n fails (alive_to n fails k) → None ≡ option_of o → goes n fails (alive_to n fails k) ≡ none
+      go none e p = sym e
+      go (some i) e p = absurd (none-some i p)
 
-    most-is : w < 32 → most_clashing n s.counts ≡ some w
-    unfolding most_clashing
-    most-is l = chosen-some (above s.counts) (beats s.counts) n w m q l
+  module _ (w : ℕ) (q : Some w ≡ option_of (most_clashing n s.counts)) where
+    most-is : most_clashing n s.counts ≡ some w
+    most-is = go (most_clashing n s.counts) q
+      where
+        go : (o : maybe.Option ℕ) → Some w ≡ option_of o → o ≡ some w
+        go none p = absurd (none-some w (sym p))
+        go (some i) p = ap some (sym (same_Some w i p))
 
-    pub leaving : w < 32 → Leaving n fails k s w
+    pub leaving : Leaving n fails k s w
     unfolding held_to Option-elim
-    leaving l =
-        let found : goes n fails (alive_to n fails k) ≡ some w = sym named ∙ most-is l in
+    leaving =
+        let found : goes n fails (alive_to n fails k) ≡ some w = sym named ∙ most-is in
         let g : Goes n fails (alive_to n fails k) w = goes_some n fails (alive_to n fails k) (alive-below n fails k) w found in
         let here : T (s.alive w) = subst (λ (A : Subset). T (A w)) (sym held-alive) g.here in
         record {
@@ -112,5 +124,5 @@ module _ (n : ℕ) (fails : ℕ → ℕ → Bool) (k : ℕ) (s : Held) (e : s �
           below = alive-below n fails k w g.here;
           early = goes-early n fails k w g;
           clash = held-true.recount w here ∙ ap (λ (A : Subset). clashes n fails A w) held-alive;
-          next = λ t a c. removed-held n fails s w t held_below held-true a c ∙ rw (← e, most-is l) refl;
+          next = λ t a c. removed-held n fails s w t held_below held-true a c ∙ rw (← e, most-is) refl;
         }

@@ -5,7 +5,7 @@ ghost use Rattle.std.specs.Prelude.{◌≡◌, true, cond, ℕ, ◌+◌, ◌-◌
 ghost use Rattle.binary64.specs.Root.{floor_root};
 ghost use Rattle.sets.specs.Sets.{first};
 ghost use Rattle.sets.specs.Mask.{has};
-ghost use Rattle.sets.specs.Held.{index_of};
+ghost use Rattle.sets.specs.Held.{option_of};
 ghost use Rattle.screen.specs.Pair as pair;
 ghost use Rattle.screen.specs.Screen as removal;
 ghost use Rattle.screen.specs.Held.{pairs_of, numbers_of, held_by, Told};
@@ -45,6 +45,13 @@ fn least_baseline(gap: u64) -> u64
     light - SCREEN_MARGIN_MM
 }
 
+// d * d, which two words hold.
+fn squared(d: u64) -> u128
+    ensures { result ≡ d * d }
+{
+    d as u128 * d as u128
+}
+
 // Whether two sites x, y and z apart along the axes have a baseline of `least` or more. No root is
 // taken: the floored root of a number is at least `least` where the number is at least the square of
 // `least`, and nowhere else.
@@ -66,8 +73,7 @@ fn reaches(x: u64, y: u64, z: u64, least: u64) -> bool
     if least <= z {
         return true;
     }
-    let squared = wide::add(wide::add(wide::mul(x, x), wide::mul(y, y)), wide::mul(z, z));
-    wide::le(wide::mul(least, least), squared)
+    squared(least) <= squared(x) + squared(y) + squared(z)
 }
 
 // How far two of the values are apart.
@@ -75,7 +81,7 @@ fn apart(values: &[i64], a: usize, b: usize) -> u64
     requires { (a < length values.now) × (b < length values.now) }
     ensures { result ≡ pair.gap (get_or values.now a (pos 0)) (get_or values.now b (pos 0)) }
 {
-    wide::abs_diff(values[a], values[b])
+    values[a].abs_diff(values[b])
 }
 
 // Whether receptions i and j are a failing pair.
@@ -100,13 +106,11 @@ fn mark(times: &[i64; 32], sites: &[i64; 96], i: usize, rows: &mut [u32; 32])
     ensures rows_after { pairs_of rows.new
         ≡ pair.fails times.now sites.now (i + 1) }
 {
-    let mut j = 0usize;
-    while j < i {
+    for j in 0..i {
         if clash(times, sites, i, j) {
             rows[i] = sets::joined(rows[i], j);
             rows[j] = sets::joined(rows[j], i);
         }
-        j += 1;
     }
 }
 
@@ -116,10 +120,8 @@ pub fn failing(times: &[i64; 32], sites: &[i64; 96], n: usize) -> [u32; 32]
     ensures { pairs_of result ≡ pair.fails times.now sites.now n }
 {
     let mut rows = [0u32; 32];
-    let mut i = 0usize;
-    while i < n {
+    for i in 0..n {
         mark(times, sites, i, &mut rows);
-        i += 1;
     }
     rows
 }
@@ -139,32 +141,25 @@ fn start(rows: &[u32; 32], n: usize) -> State
 {
     let alive = sets::first(n);
     let mut counts = [0u32; 32];
-    let mut i = 0usize;
-    while i < n {
+    for i in 0..n {
         counts[i] = sets::count(alive & rows[i]);
-        i += 1;
     }
-    State {
-        alive: alive,
-        counts: counts,
-    }
+    State { alive, counts }
 }
 
-// Which goes: the one in most failing pairs by these numbers, the lowest index on ties, or NONE.
-fn most_clashing(counts: &[u32; 32], n: usize) -> usize
+// Which goes: the one in most failing pairs by these numbers, the lowest index on ties.
+fn most_clashing(counts: &[u32; 32], n: usize) -> Option<usize>
     requires { n ≤ 32 }
-    ensures { result ≡ index_of (most_clashing n (numbers_of counts.now)) }
+    ensures { result ≡ option_of (most_clashing n (numbers_of counts.now)) }
 {
-    let mut worst = sets::NONE;
+    let mut worst = None;
     let mut most = 0u32;
-    let mut i = 0usize;
-    while i < n {
+    for i in 0..n {
         let count = counts[i];
         if most < count {
             most = count;
-            worst = i;
+            worst = Some(i);
         }
-        i += 1;
     }
     worst
 }
@@ -189,10 +184,8 @@ fn lessen(rows: &[u32; 32], n: usize, w: usize, counts: &mut [u32; 32])
         ≡ lessened (pairs_of rows.now) (first n) w (numbers_of counts.old) }
 {
     counts[w] = 0;
-    let mut i = 0usize;
-    while i < n {
+    for i in 0..n {
         counts[i] = less(counts[i], rows[i], w);
-        i += 1;
     }
 }
 
@@ -214,19 +207,17 @@ pub fn removals(rows: &[u32; 32], n: usize) -> Outcome
     let mut turns = [0u32; 32];
     let mut clashes = [0u32; 32];
     let mut turn = 0u32;
-    let mut worst = most_clashing(&state.counts, n);
-    while worst < sets::NONE {
+    while let Some(worst) = most_clashing(&state.counts, n) {
         turn += 1;
         turns[worst] = turn;
         clashes[worst] = state.counts[worst];
         state.alive = sets::without(state.alive, worst);
         lessen(rows, n, worst, &mut state.counts);
-        worst = most_clashing(&state.counts, n);
     }
     Outcome {
         kept: state.alive,
-        turns: turns,
-        clashes: clashes,
+        turns,
+        clashes,
     }
 }
 
@@ -235,14 +226,7 @@ fn clear(rows: &[u32; 32], n: usize) -> bool
     requires { n ≤ 32 }
     ensures { result ≡ true → Clear n (pairs_of rows.now) (first n) }
 {
-    let mut i = 0usize;
-    while i < n {
-        if rows[i] > 0 {
-            return false;
-        }
-        i += 1;
-    }
-    true
+    rows[..n].iter().all(|&row| row == 0)
 }
 
 // Those of n receptions that are left once no pair of `rows` is. Nothing is counted where none is.
@@ -253,8 +237,7 @@ pub fn kept(rows: &[u32; 32], n: usize) -> u32
     if clear(rows, n) {
         return sets::first(n);
     }
-    let all = removals(rows, n);
-    all.kept
+    removals(rows, n).kept
 }
 
 // The receptions that the screen keeps, of the n with these times (picoseconds) and sites

@@ -9,7 +9,6 @@ use native.Mathlib.Numerals.{add-one}
 use lib.Dec.{T, T_not, not_T, ltb, leb, ltb→lt, nltb→le}
 use borrow.Author.Tests.{le-leb, lt-leb}
 use Rattle.sets.specs.Choice.{consider, choose, FirstBest, IsChoice, Ranks, PassFindsChoice, OneChoice}
-use Rattle.sets.specs.Held.{index_of}
 use Rattle.sets.proofs.Tests.{either, eq→T, eq→F, lt-suc-cases, neither-below}
 
 -- ---- the pass finds the choice
@@ -90,71 +89,3 @@ choice-unique p beats k (some i) (some j) h g = ap some (neither-below i j (neve
     -- the later of two would beat the earlier
     never : (a b : ℕ) → FirstBest p beats k a → FirstBest p beats k b → a < b → ⊥
     never a b f s l = T_not (beats b a) (f.unbeaten b s.below s.candidate) (s.lowest a l f.candidate)
-
--- ---- the index that code holds
-below-or-none : (p : ℕ → Bool) (beats : ℕ → ℕ → Bool) (k : ℕ) → (choose p beats k ≡ none) ⊎ (index_of (choose p beats k) < k)
-unfolding choose
-below-or-none p beats zero = inl refl
-below-or-none p beats (suc k) = go (p k) (choose p beats k) (below-or-none p beats k)
-  where
-    both : (c : Bool) (b : ℕ) → b < k → index_of (cond c (some k) (some b)) < suc k
-    both true b h = omega arith
-    both false b h = omega arith
-
-    go : (t : Bool) (o : Option ℕ) → (o ≡ none) ⊎ (index_of o < k) → (consider beats t k o ≡ none) ⊎ (index_of (consider beats t k o) < suc k)
-    go false o (inl e) = inl e
-    go false o (inr h) = inr (omega arith)
-    go true none h = inr (omega arith)
-    go true (some b) (inl e) = inr (absurd (let z : ◌≡◌ {A = ℕ} 0 1 = cc in omega arith))
-    go true (some b) (inr h) = inr (both (beats k b) b h)
-
-module _ (p : ℕ → Bool) (beats : ℕ → ℕ → Bool) (k w : ℕ) (s : k ≤ 32) (e : w ≡ index_of (choose p beats k)) where
-  pub chosen-some : w < 32 → choose p beats k ≡ some w
-  chosen-some h = go (choose p beats k) e
-    where
-      go : (o : Option ℕ) → w ≡ index_of o → o ≡ some w
-      go none q = absurd (omega arith)
-      go (some i) q = ap some (sym q)
-
-  pub chosen_none : 32 ≤ w → choose p beats k ≡ none
-  chosen_none h = elim (below-or-none p beats k) [ inl q ↦ q | inr l ↦ absurd (omega arith) ]
-
-  pub chosen-below : w < 32 → w < k
-  chosen-below h = elim (below-or-none p beats k) [ inl q ↦ absurd (go q) | inr l ↦ omega arith ]
-    where
-      go : choose p beats k ≡ none → ⊥
-      go q = let z : w ≡ 32 = e ∙ ap index_of q in omega arith
-
-  -- one index more: no candidate, the first one, a better one, or one that is not better
-  turn : (t : Bool) (o : Option ℕ) (r : ℕ) → p k ≡ t → choose p beats k ≡ o → r ≡ index_of (consider beats t k o) → r
-      ≡ index_of (choose p beats (k + 1))
-  unfolding choose
-  turn t o r f c q = q ∙ ap₂ (λ (x : Bool) (y : Option ℕ). index_of (consider beats x k y)) (sym f) (sym c)
-      ∙ ap (λ (x : ℕ). index_of (choose p beats x)) (sym (add-one k))
-
-  pub skips : p k ≡ false → w ≡ index_of (choose p beats (k + 1))
-  unfolding consider
-  skips f = turn false (choose p beats k) w f refl e
-
-  pub begins : p k ≡ true → 32 ≤ w → k ≡ index_of (choose p beats (k + 1))
-  unfolding consider
-  begins f h = turn true none k f (chosen_none h) refl
-
-  pub takes : p k ≡ true → w < 32 → beats k w ≡ true → k ≡ index_of (choose p beats (k + 1))
-  unfolding consider
-  takes f h b = turn true (some w) k f (chosen-some h) (rw b refl)
-
-  pub leaves : p k ≡ true → w < 32 → beats k w ≡ false → w ≡ index_of (choose p beats (k + 1))
-  unfolding consider
-  leaves f h b = turn true (some w) w f (chosen-some h) (rw b refl)
-
-  -- all four at once: k goes in where it is a candidate, and there is none yet or it is better
-  pub choice-turn : (r : ℕ) → r ≡ cond (p k && (leb 32 w || beats k w)) k w → r ≡ index_of (choose p beats (k + 1))
-  choice-turn r h = h ∙ go (p k) refl (either (ltb w 32)) (beats k w) refl
-    where
-      go : (c : Bool) → p k ≡ c → T (ltb w 32) ⊎ T (not (ltb w 32)) → (b : Bool) → beats k w ≡ b → cond (c && (leb 32 w || b)) k w
-          ≡ index_of (choose p beats (k + 1))
-      go false f l b q = skips f
-      go true f (inl l) true q = let m = ltb→lt w 32 l in ap (λ (x : Bool). cond (x || true) k w) (lt-leb 32 w m) ∙ takes f m q
-      go true f (inl l) false q = let m = ltb→lt w 32 l in ap (λ (x : Bool). cond (x || false) k w) (lt-leb 32 w m) ∙ leaves f m q
-      go true f (inr l) b q = let m = nltb→le w 32 l in ap (λ (x : Bool). cond (x || b) k w) (le-leb 32 w m) ∙ begins f m

@@ -1,9 +1,9 @@
 -- How the code holds a choice. Nothing that must be believed cites it. Definitions only.
-use Rattle.std.proofs.Math.Option.{Option, none, some}
-use Rattle.std.specs.Prelude.{ℕ}
-use Rattle.sets.specs.Sets.{most_receptions}
+use Rattle.std.proofs.Math.Option as maybe
+use Rattle.std.proofs.Math.Option.{none, some}
+use Rattle.std.specs.Prelude.{ℕ, Option, None, Some}
 
--- how code holds a choice among at most 32: the index, or 32 for none
-abbrev pub index_of : Option ℕ → ℕ
-index_of none = most_receptions
-index_of (some i) = i
+-- a choice as the language's own `Option`
+abbrev pub option_of : maybe.Option ℕ → Option ℕ
+option_of none = None
+option_of (some i) = Some i

@@ -5,9 +5,6 @@ ghost use Rattle.std.specs.Prelude.{◌≡◌, ℕ, ◌^◌, ◌≤◌, ◌<◌}
 ghost use Rattle.sets.specs.Sets.{first, joined, without, count, members_to};
 ghost use Rattle.sets.specs.Mask.{has};
 
-// Stands for no reception where an index is one of 0 to 31.
-pub const NONE: usize = 32;
-
 // Whether reception i is in the set.
 pub fn has(mask: u32, i: usize) -> bool
     requires { i < 32 }

@@ -9,10 +9,6 @@
 
 use std::rt::Files;
 
-fn all(a: bool, b: bool, c: bool) -> bool {
-    a && b && c
-}
-
 // The record, to standard output.
 fn write<R: Print + Eprint + Alloc>(rt: &R, record: &[u8]) {
     host::written(rt, rt.write_all(record), b"solve: standard output");
@@ -25,25 +21,19 @@ fn solve<R: Files + Print + Eprint + Alloc>(rt: &R, folder: &[u8]) {
     let mut al = [0u8; 17];
     let mut re = [0u8; 9];
     let mut out = [0u8; 176];
-    let p = folder::read_receptions(rt, folder, &mut rs);
-    if !p.read {
+    let Ok(p) = folder::read_receptions(rt, folder, &mut rs) else {
         return;
-    }
-    let c = folder::read_file(rt, folder, b"clock.bin", &mut cs);
-    let a = folder::read_file(rt, folder, b"altitude.bin", &mut al);
-    let r = folder::read_file(rt, folder, b"reference.bin", &mut re);
-    let pn = p.n;
-    let cn = c.n;
-    let an = a.n;
-    let rn = r.n;
-    let present = folder::present(c.there, a.there, r.there);
-    if all(c.read, a.read, r.read) {
+    };
+    let clock = folder::read_file(rt, folder, b"clock.bin", &mut cs);
+    let altitude = folder::read_file(rt, folder, b"altitude.bin", &mut al);
+    let reference = folder::read_file(rt, folder, b"reference.bin", &mut re);
+    if let (Ok(c), Ok(a), Ok(r)) = (clock, altitude, reference) {
         entry::solve(
-            &rs[..pn],
-            &cs[..cn],
-            &al[..an],
-            &re[..rn],
-            present,
+            &rs[..p.unwrap_or(0)],
+            &cs[..c.unwrap_or(0)],
+            &al[..a.unwrap_or(0)],
+            &re[..r.unwrap_or(0)],
+            folder::present(c.is_some(), a.is_some(), r.is_some()),
             &mut out,
         );
         write(rt, &out);
@@ -52,10 +42,7 @@ fn solve<R: Files + Print + Eprint + Alloc>(rt: &R, folder: &[u8]) {
 
 // Whether a word names a folder: it is not empty, and no option.
 fn is_name(word: &[u8]) -> bool {
-    if word.len() == 0 {
-        return false;
-    }
-    word[0] != b'-'
+    word.first().is_some_and(|byte| *byte != b'-')
 }
 
 fn main(rt: HostRuntime) {

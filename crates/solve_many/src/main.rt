@@ -29,25 +29,41 @@ const ROOM: usize = 12575;
 // How many bytes are passed over at a time.
 const BLOCK: usize = 4096;
 
-// How a stream ends; and that it goes on.
-const ENDED: u64 = 0;
+// How a stream ends.
+#[derive(Clone, Copy, Debug, PartialEq, Eq)]
+enum End {
+    Ended,
+    Torn,
+    Unread,
+    Unwritten,
+}
 
-const TORN: u64 = 3;
-
-const UNREAD: u64 = 4;
-
-const UNWRITTEN: u64 = 5;
-
-const GOES_ON: u64 = 9;
+impl End {
+    // What --status writes of it.
+    fn digit(self) -> u64 {
+        match self {
+            End::Ended => 0,
+            End::Torn => 3,
+            End::Unread => 4,
+            End::Unwritten => 5,
+        }
+    }
+}
 
 // Where its digit goes.
 const STATUS_FILENO: i32 = 3;
 
-// What became of the next problem: its answer number, or how the stream ends; and how many of its bytes came.
+// A problem that was solved and written: its answer number, and how many bytes it has.
 #[derive(Clone, Copy)]
-struct Step {
-    end: u64,
+struct Solved {
     number: u32,
+    bytes: u64,
+}
+
+// That the stream ends in place of a problem, how, and how many of the problem's bytes came.
+#[derive(Clone, Copy)]
+struct Stop {
+    end: End,
     bytes: u64,
 }
 
@@ -60,44 +76,22 @@ struct Done {
     bytes: u64,
 }
 
-// When the first problem was begun and when that was last told, seconds since 1970; on a terminal alone.
+// When the first problem was begun and when that was last told, seconds since 1970.
 #[derive(Clone, Copy)]
 struct Watch {
-    terminal: bool,
     start: u64,
     last: u64,
 }
 
-fn print(rt: &impl Eprint, text: &str) {
-    host::say(rt, text);
-}
-
-fn print_number(rt: &impl Eprint, number: u64) {
-    host::say(rt, number);
-}
-
 // ---- reading
-
-fn least(a: usize, b: usize) -> usize
-    ensures { (result ≤ a) × (result ≤ b) }
-{
-    if a < b {
-        return a;
-    }
-    b
-}
 
 // Reads n bytes to `body` from byte `at` on. How many came: none where there is no room.
 fn read_to(input: &mut impl Read, body: &mut [u8], at: usize, n: usize) -> usize {
     let room = body.len();
-    if at > room {
+    if at > room || n > room - at {
         return 0;
     }
-    if n > room - at {
-        return 0;
-    }
-    let end = at + n;
-    host::read_full(input, &mut body[at..end])
+    host::read_full(input, &mut body[at..at + n])
 }
 
 // Passes over n bytes, or a block of them. How many came.
@@ -105,10 +99,10 @@ fn some_passed(input: &mut impl Read, n: usize) -> usize
     ensures { result ≤ n }
 {
     let mut block = [0u8; BLOCK];
-    least(read_to(input, &mut block, 0, least(n, BLOCK)), n)
+    read_to(input, &mut block, 0, n.min(BLOCK)).min(n)
 }
 
-// Passes over n bytes. How many came.
+// Passes over n bytes. How many came. (A `while`: each turn takes as many as came, which no range counts.)
 fn passed(input: &mut impl Read, n: usize) -> usize
     ensures { result ≤ n }
 {
@@ -126,13 +120,10 @@ fn passed(input: &mut impl Read, n: usize) -> usize
 // Reads an input of `size` bytes, of which `kept` are kept, to `body` from byte `at` on. How many came.
 fn read_input(input: &mut impl Read, body: &mut [u8], at: usize, kept: usize, size: usize) -> u64 {
     let came = read_to(input, body, at, kept);
-    if came < kept {
+    if came < kept || size <= kept {
         return came as u64;
     }
-    if size <= kept {
-        return came as u64;
-    }
-    std::num::wrapping_add_u64(came as u64, passed(input, size - kept) as u64)
+    (came as u64).wrapping_add(passed(input, size - kept) as u64)
 }
 
 // How many bytes the inputs have.
@@ -167,57 +158,53 @@ fn read_inputs(input: &mut impl Read, body: &mut [u8], head: Head, kept: Head) -
     );
     let k = stream::size_of(kept.reference);
     let d = read_input(input, body, reference, k, stream::size_of(head.reference));
-    let two = std::num::wrapping_add_u64(a, b);
-    std::num::wrapping_add_u64(two, std::num::wrapping_add_u64(c, d))
+    a.wrapping_add(b).wrapping_add(c).wrapping_add(d)
 }
 
 // ---- solving
 
 // The end of a stream of whose next problem so many bytes came. A failing read is told from the end.
-fn ended<R: Eprint + Alloc>(rt: &R, input: &mut impl Read, bytes: u64) -> Step {
-    let mut end = TORN;
-    if bytes == 0 {
-        end = ENDED;
-    }
-    if !host::sound(rt, input, b"solve_many: standard input") {
-        end = UNREAD;
-    }
-    Step {
-        end,
-        number: 0,
-        bytes,
-    }
+fn ended<R: Eprint + Alloc>(rt: &R, input: &mut impl Read, bytes: u64) -> Stop {
+    let end = if !host::sound(rt, input, b"solve_many: standard input") {
+        End::Unread
+    } else if bytes == 0 {
+        End::Ended
+    } else {
+        End::Torn
+    };
+    Stop { end, bytes }
 }
 
-// Writes a record. Whether the stream goes on; where it cannot be written, that is said.
-fn written<R: Print + Eprint + Alloc>(rt: &R, out: &[u8], number: u32, bytes: u64) -> Step {
-    let mut end = GOES_ON;
-    if !host::written(rt, rt.write_all(out), b"solve_many: standard output") {
-        end = UNWRITTEN;
-    }
-    Step { end, number, bytes }
-}
-
-// Reads, solves and writes a problem of these lengths.
-fn solve<R: Print + Eprint + Alloc>(rt: &R, input: &mut impl Read, head: Head) -> Step {
+// Reads, solves and writes a problem of these lengths. Where it cannot be written, that is said.
+fn solve<R: Print + Eprint + Alloc>(
+    rt: &R,
+    input: &mut impl Read,
+    head: Head,
+) -> Result<Solved, Stop> {
     let mut body = [0u8; ROOM];
     let mut out = [0u8; 176];
     let kept = stream::kept(head);
     let came = read_inputs(input, &mut body, head, kept);
-    let bytes = std::num::wrapping_add_u64(16, came);
+    let bytes = came.wrapping_add(16);
     if came < bytes_of(head) as u64 {
-        return ended(rt, input, bytes);
+        return Err(ended(rt, input, bytes));
     }
-    let solved = stream::solve_body(kept, &body, &mut out);
-    written(rt, &out, solved.number, bytes)
+    let number = stream::solve_body(kept, &body, &mut out).map_or(0, |solved| solved.number);
+    if !host::written(rt, rt.write_all(&out), b"solve_many: standard output") {
+        return Err(Stop {
+            end: End::Unwritten,
+            bytes,
+        });
+    }
+    Ok(Solved { number, bytes })
 }
 
 // The next problem.
-fn next<R: Print + Eprint + Alloc>(rt: &R, input: &mut impl Read) -> Step {
+fn next<R: Print + Eprint + Alloc>(rt: &R, input: &mut impl Read) -> Result<Solved, Stop> {
     let mut lengths = [0u8; 16];
     let n = host::read_full(input, &mut lengths);
     if n < 16 {
-        return ended(rt, input, n as u64);
+        return Err(ended(rt, input, n as u64));
     }
     solve(rt, input, stream::head_of(&lengths))
 }
@@ -240,107 +227,78 @@ fn each_second(done: Done, start: u64, now: u64) -> u64 {
 }
 
 fn print_done(rt: &impl Eprint, done: Done, start: u64, now: u64) {
-    print(rt, "\rsolve_many: ");
-    print_number(rt, done.fixes);
-    print(rt, " fixes, ");
-    print_number(rt, done.refused);
-    print(rt, " refused, ");
-    print_number(rt, each_second(done, start, now));
-    print(rt, " a second");
+    let fixes = done.fixes;
+    let refused = done.refused;
+    let speed = each_second(done, start, now);
+    let _ = eprint!(rt; "\rsolve_many: {fixes} fixes, {refused} refused, {speed} a second");
 }
 
-// Tells how far it is, on a terminal, if a second has passed since.
+// Tells how far it is, if a second has passed since.
 fn told<R: Eprint + Clock>(rt: &R, watch: Watch, done: Done) -> Watch {
-    if !watch.terminal {
-        return watch;
-    }
     let now = seconds(rt);
-    if now == watch.last {
-        return watch;
+    if now != watch.last {
+        print_done(rt, done, watch.start, now);
     }
-    print_done(rt, done, watch.start, now);
     Watch {
-        terminal: true,
         start: watch.start,
         last: now,
     }
 }
 
 // Says where a stream is torn.
-fn print_torn(rt: &impl Eprint, done: Done, step: Step) {
-    print(
-        rt,
-        "solve_many: the stream ends within the problem at place ",
+fn print_torn(rt: &impl Eprint, done: Done, came: u64) {
+    let place = done.problems;
+    let byte = done.bytes;
+    let _ = eprintln!(rt;
+        "solve_many: the stream ends within the problem at place {place}, which begins at byte {byte}: {came} bytes of it are there"
     );
-    print_number(rt, done.problems);
-    print(rt, ", which begins at byte ");
-    print_number(rt, done.bytes);
-    print(rt, ": ");
-    print_number(rt, step.bytes);
-    print(rt, " bytes of it are there\n");
 }
 
 // The last words, and how the stream ended.
-fn last<R: Eprint + Clock>(rt: &R, watch: Watch, done: Done, step: Step) -> u64 {
-    if watch.terminal {
+fn last<R: Eprint + Clock>(rt: &R, watch: Option<Watch>, done: Done, stop: Stop) -> End {
+    if let Some(watch) = watch {
         print_done(rt, done, watch.start, seconds(rt));
-        print(rt, "\n");
+        host::say(rt, "\n");
     }
-    if step.end == TORN {
-        print_torn(rt, done, step);
+    if stop.end == End::Torn {
+        print_torn(rt, done, stop.bytes);
     }
-    step.end
+    stop.end
 }
 
 // ---- the whole
 
-// 1 for a fix.
-fn fix(number: u32) -> u64
-    ensures { result ≤ 1 }
-{
-    if number == 0 {
-        return 1;
-    }
-    0
-}
-
-fn with(done: Done, step: Step, problems: u64) -> Done {
-    let f = fix(step.number);
+fn with(done: Done, solved: Solved, problems: u64) -> Done {
+    let fix = (solved.number == 0) as u64;
     Done {
         problems,
-        fixes: std::num::wrapping_add_u64(done.fixes, f),
-        refused: std::num::wrapping_add_u64(done.refused, 1 - f),
-        bytes: std::num::wrapping_add_u64(done.bytes, step.bytes),
+        fixes: done.fixes.wrapping_add(fix),
+        refused: done.refused.wrapping_add(1 - fix),
+        bytes: done.bytes.wrapping_add(solved.bytes),
     }
 }
 
-// Solves problem after problem, to the stream's end. How it ended.
-fn run<R: Print + Eprint + Alloc + Clock>(rt: &R, input: &mut impl Read, terminal: bool) -> u64 {
+// Solves problem after problem, to the stream's end. How it ended. On a terminal it tells how far it is.
+fn run<R: Print + Eprint + Alloc + Clock>(rt: &R, input: &mut impl Read, terminal: bool) -> End {
     let now = seconds(rt);
-    let mut watch = Watch {
-        terminal,
+    let mut watch = terminal.then_some(Watch {
         start: now,
         last: now,
-    };
+    });
     let mut done = Done {
         problems: 0,
         fixes: 0,
         refused: 0,
         bytes: 0,
     };
-    let mut problems = 0;
-    while problems < MOST {
-        let step = next(rt, input);
-        if step.end != GOES_ON {
-            return last(rt, watch, done, step);
+    for before in 0..MOST {
+        match next(rt, input) {
+            Ok(solved) => done = with(done, solved, before + 1),
+            Err(stop) => return last(rt, watch, done, stop),
         }
-        problems += 1;
-        let more = with(done, step, problems);
-        done = more;
-        let later = told(rt, watch, done);
-        watch = later;
+        watch = watch.map(|watch| told(rt, watch, done));
     }
-    ENDED
+    End::Ended
 }
 
 fn main(rt: HostRuntime) {
@@ -348,12 +306,11 @@ fn main(rt: HostRuntime) {
     let n = host::arg(&rt, 1, &mut word);
     let status = check::same(&word[..n], b"--status");
     if host::arg_count(&rt) > 2 || host::arg_count(&rt) == 2 && !status {
-        print(&rt, "usage: solve_many [--status] <STREAM >RECORDS\n");
+        host::say(&rt, "usage: solve_many [--status] <STREAM >RECORDS\n");
         return;
     }
-    let mut input = rt.stdin();
-    let end = run(&rt, &mut input, rt.stderr().is_terminal());
+    let end = run(&rt, &mut rt.stdin(), rt.stderr().is_terminal());
     if status {
-        io::print_decimal(STATUS_FILENO, end);
+        io::print_decimal(STATUS_FILENO, end.digit());
     }
 }

@@ -6,7 +6,7 @@ use mathlib.Core.Bool.{Bool, true, false, cond}
 use mathlib.Core.List.{List, []}
 use mathlib.Core.Option.{Option, none, some, map, get_or}
 use native.Mathlib.Omega.{arith}
-use borrow.Author.Tests.{ne_eqb, leb-true, leb-false, ltb-true, ltb-false}
+use borrow.Author.Tests.{ne_eqb, leb-true, leb-false}
 use lib.Dec.{eqb, leb, ltb}
 use lib.ListN.{length, take, length-take}
 use lib.Seq.{take_all, length-take-le}
@@ -15,7 +15,6 @@ use Rattle.entry.specs.declared.Reply.{Reply}
 use Rattle.entry.specs.Reply.{reply}
 use Rattle.entry.specs.Cut.{filed, one_too_many, taken, cut_of}
 use Rattle.entry.proofs.Cut.{cut-replies-alike}
-use Rattle.stream.specs.declared.Head.{Head}
 use Rattle.stream.specs.Frames.{absent, kept_receptions, kept_to, kept, Parts, asked}
 use Rattle.stream.specs.Meaning.{mark_of, Short, Writable, marks_of, cut, LongAlike}
 

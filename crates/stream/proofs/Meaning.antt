@@ -1,13 +1,13 @@
 -- What is written is read back: the statements `ReadBack` and `OneAfterAnother` of specs/Meaning.antt. Assumes nothing.
-use Prim.Native.Nat.{ℕ, zero, suc, ◌+◌, ◌-◌, ◌*◌, ◌^◌, ◌≤◌, ◌<◌}
+use Prim.Native.Nat.{ℕ, ◌+◌, ◌^◌, ◌≤◌, ◌<◌}
 use mathlib.Core.Path.{◌≡◌, refl, sym, ap, ap₂, ◌∙◌}
 use mathlib.Core.Bool.{Bool, true, false, cond}
 use mathlib.Core.List.{List, [], ◌∷◌, ◌++◌, append_assoc}
 use mathlib.Core.Option.{Option, none, some}
 use native.Mathlib.Omega.{arith}
-use borrow.Author.Tests.{eq-eqb, ne_eqb, le-leb, lt-leb, leb-true, leb-false}
+use borrow.Author.Tests.{ne_eqb, le-leb, lt-leb, leb-true}
 use lib.Dec.{eqb, leb}
-use lib.ListN.{length, take, drop, get_or, length-append, length-drop, get_or-append}
+use lib.ListN.{length, take, drop, length-append, length-drop, get_or-append}
 use lib.Seq.{take-append_seam, drop_at, drop-append_seam}
 use Rattle.words.specs.Words.{word_at, u32_at}
 use Rattle.entry.specs.Reply.{output}
@@ -15,7 +15,7 @@ use Rattle.stream.specs.declared.Head.{Head}
 use Rattle.stream.specs.Frames.{absent, head_of, size_of, clock_from, altitude_from, reference_from, body_bytes, input, Parts, parts_of}
 use Rattle.stream.specs.Frames.{asked, torn, whole, solved_next, output_next}
 use Rattle.stream.specs.Meaning.{mark_of, bytes_of, word, marks_of, lengths_of, body_of, written, Short, Writable, first_of, takes, ReadBack}
-use Rattle.stream.specs.Meaning.{AllWritable, written_all, read_all, OneAfterAnother}
+use Rattle.stream.specs.Meaning.{written_all, read_all, OneAfterAnother}
 
 -- ---- the lengths
 

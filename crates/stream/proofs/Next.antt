@@ -1,13 +1,14 @@
 -- What `answer_next` gives a caller is the solve's answer to the first problem: the statement `NextSolved` of specs/Meaning.antt.
 -- Assumes nothing.
-use Prim.Native.Nat.{ℕ, ◌+◌, ◌≤◌, ◌<◌}
+use Rattle.std.specs.Prelude as std
+use Prim.Native.Nat.{ℕ, ◌≤◌, ◌<◌}
 use mathlib.Core.Path.{◌≡◌, refl, sym, ap, ◌∙◌}
 use mathlib.Core.Bool.{Bool, true, false, cond}
-use mathlib.Core.Logic.{◌⊎◌, inl, inr}
+use mathlib.Core.Logic.{inl, inr}
 use mathlib.Core.List.{List, ◌++◌}
 use mathlib.Core.Option.{Option, none, some}
 use native.Mathlib.Omega.{arith}
-use borrow.Author.Tests.{le-ltb, lt-ltb, leb-true, leb-false, ltb-false}
+use borrow.Author.Tests.{le-ltb, leb-true, leb-false}
 use lib.Dec.{leb, ltb}
 use lib.ListN.{length, drop, length-drop}
 use Rattle.inputs.specs.Inputs.{Inputs, if_there}
@@ -15,7 +16,8 @@ use Rattle.reader.proofs.Clause.{Clause}
 use Rattle.entry.specs.Reply.{reply, answer, output}
 use Rattle.entry.proofs.Records.{Told, few, disorder, bad_field, plain, Written, refused, fixed, reply-written}
 use Rattle.stream.specs.declared.Solved.{Solved}
-use Rattle.stream.specs.Frames.{head_of, body_bytes, Parts, asked, torn, whole, solved_next, output_next, next_answer, next_output, used_after}
+use Rattle.stream.specs.Frames.{number_in, used_in, head_of, body_bytes, Parts, asked, torn, whole, solved_next, output_next, next_answer}
+use Rattle.stream.specs.Frames.{next_output, used_after}
 use Rattle.stream.specs.Meaning.{bytes_of, written, Writable, first_of, takes, is_there, lent_by, NextSolved}
 use Rattle.stream.proofs.Solving.{by_bits, alike}
 use Rattle.stream.proofs.Meaning.{answers-back, outputs-back, torn-back}
@@ -75,11 +77,11 @@ answer-other I out = cond-other (ltb (length out) 176) 14 (reply I).number (λ e
 
 -- ---- what the caller gets, by what came
 
-abbrev answer_by : List ℕ → Solved → ℕ
-answer_by out r = cond (ltb (length out) 176) 14 (cond (r.whole) (r.number) 16)
+abbrev answer_by : List ℕ → std.Option Solved → ℕ
+answer_by out r = cond (ltb (length out) 176) 14 (number_in r)
 
-abbrev used_by : List ℕ → ℕ → Solved → ℕ
-used_by out found r = cond (ltb (length out) 176) found (cond (r.whole) (r.used) found)
+abbrev used_by : List ℕ → ℕ → std.Option Solved → ℕ
+used_by out found r = cond (ltb (length out) 176) found (used_in r found)
 
 twice : {A : Type 0} (b : Bool) (x y : A) → cond b x (cond b x y) ≡ cond b x y
 twice true x y = refl

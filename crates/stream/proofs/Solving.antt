@@ -1,4 +1,5 @@
 -- What `solve_body` lends to entry's solve are the inputs of the problem, so what it gets is the problem's answer. Assumes nothing.
+use Rattle.std.specs.Prelude as std
 use Prim.Native.Nat.{ℕ, ◌+◌, ◌-◌, ◌≤◌, ◌<◌}
 use mathlib.Core.Path.{◌≡◌, refl, sym, ap, ap₂, ◌∙◌}
 use mathlib.Core.Bool.{Bool, true, false, cond}
@@ -11,12 +12,11 @@ use lib.ListN.{length, take, drop}
 use Rattle.inputs.specs.declared.Given.{Given}
 use Rattle.inputs.specs.Inputs.{Inputs, if_there}
 use Rattle.entry.specs.Reply.{lent, answer, output}
-use Rattle.entry.specs.Reply as reply
 use Rattle.entry.specs.Cut.{filed, present_bits}
 use Rattle.entry.proofs.Cut.{cut-replies-alike}
 use Rattle.stream.specs.declared.Head.{Head}
 use Rattle.stream.specs.declared.Solved.{Solved}
-use Rattle.stream.specs.Frames.{absent, head_of, size_of, clock_from, altitude_from, reference_from, body_bytes}
+use Rattle.stream.specs.Frames.{number_in, used_in, absent, head_of, size_of, clock_from, altitude_from, reference_from, body_bytes}
 use Rattle.stream.specs.Frames.{input, parts_of, asked, torn, whole, solved, output_after, solved_next, output_next}
 use Rattle.stream.specs.Frames.{next_answer, next_output, used_after}
 use Rattle.stream.specs.Held.{there, present_of}
@@ -80,13 +80,13 @@ module _ (h : Head) (body out : List ℕ) where
 
     pub body-solved
         : (n : ℕ) (after : List ℕ) → a + b + c + d ≤ length body → n ≡ answer lending out → after ≡ output lending out
-        → (◌≡◌ {A = Solved} (record { whole = true; used = 16 + (a + b + c + d); number = n }) (solved h body out))
+        → (std.Some (record { used = 16 + (a + b + c + d); number = n }) ≡ solved h body out)
         × (after ≡ output_after h body out)
     body-solved n after l en eo =
         let t : leb (body_bytes h) (length body) ≡ true = le-leb (body_bytes h) (length body) (omega (arith, ends, l)) in
         let num : n ≡ answer (asked (parts_of h body)) out = en ∙ ap (λ (I : Inputs). answer I out) as-asked in
         let left : after ≡ output (asked (parts_of h body)) out = eo ∙ ap (λ (I : Inputs). output I out) as-asked in (
-          ap₂ (λ (u m : ℕ). record { whole = true; used = 16 + u; number = m }) ends num
+          ap₂ (λ (u m : ℕ). std.Some (record { used = 16 + u; number = m })) ends num
               ∙ sym (ap (λ (q : Bool). cond q (whole (16 + body_bytes h) (parts_of h body) out) torn) t),
           left ∙ sym (ap (λ (q : Bool). cond q (output (asked (parts_of h body)) out) out) t),
         )
@@ -107,7 +107,7 @@ module _ (s out : List ℕ) where
       )
 
   pub next-solved
-      : (h : Head) (body : List ℕ) (r : Solved) (after : List ℕ) → 16 ≤ length s → h ≡ head_of s → body ≡ drop 16 s
+      : (h : Head) (body : List ℕ) (r : std.Option Solved) (after : List ℕ) → 16 ≤ length s → h ≡ head_of s → body ≡ drop 16 s
       → r ≡ solved h body out → after ≡ output_after h body out → (r ≡ solved_next s out) × (after ≡ output_next s out)
   next-solved h body r after l eh eb er eo =
       let t = le-leb 16 (length s) l in (
@@ -122,25 +122,18 @@ module _ (s out : List ℕ) where
     pub answer-short : length out < 176 → (14 ≡ next_answer s out) × ((out ≡ next_output s out) × (found ≡ used_after s out found))
     answer-short l = let t = lt-ltb (length out) 176 l in (rw t, (rw t, rw t))
 
-    module _ (r : Solved) (after : List ℕ) (l : 176 ≤ length out) (er : r ≡ solved_next s out) (eo : after ≡ output_next s out) where
+    module _ (r : std.Option Solved) (after : List ℕ) (l : 176 ≤ length out) (er : r ≡ solved_next s out) (eo : after ≡ output_next s out) where
       room : ltb (length out) 176 ≡ false
       room = le-ltb (length out) 176 l
 
       output-is : after ≡ next_output s out
       output-is = eo ∙ sym (ap (λ (q : Bool). cond q out (output_next s out)) room)
 
-      answer-is : (b : Bool) → r.whole ≡ b → cond b r.number 16 ≡ next_answer s out
-      answer-is b e =
-          sym (ap (λ (q : Bool). cond q r.number 16) e) ∙ ap (λ (x : Solved). cond x.whole x.number 16) er
-          ∙ sym (ap (λ (q : Bool). cond q 14 (cond (solved_next s out).whole (solved_next s out).number 16)) room)
+      answer-is : number_in r ≡ next_answer s out
+      answer-is = ap number_in er ∙ sym (ap (λ (q : Bool). cond q 14 (number_in (solved_next s out))) room)
 
-      used_is : (b : Bool) → r.whole ≡ b → cond b r.used found ≡ used_after s out found
-      used_is b e =
-          sym (ap (λ (q : Bool). cond q r.used found) e) ∙ ap (λ (x : Solved). cond x.whole x.used found) er
-          ∙ sym (ap (λ (q : Bool). cond q found (cond (solved_next s out).whole (solved_next s out).used found)) room)
+      used_is : used_in r found ≡ used_after s out found
+      used_is = ap (λ (x : std.Option Solved). used_in x found) er ∙ sym (ap (λ (q : Bool). cond q found (used_in (solved_next s out) found)) room)
 
-      pub answer-whole : r.whole ≡ true → (r.number ≡ next_answer s out) × ((after ≡ next_output s out) × (r.used ≡ used_after s out found))
-      answer-whole e = (answer-is true e, (output-is, used_is true e))
-
-      pub answer-torn : r.whole ≡ false → (16 ≡ next_answer s out) × ((after ≡ next_output s out) × (found ≡ used_after s out found))
-      answer-torn e = (answer-is false e, (output-is, used_is false e))
+      pub answer-is_due : (number_in r ≡ next_answer s out) × ((after ≡ next_output s out) × (used_in r found ≡ used_after s out found))
+      answer-is_due = (answer-is, (output-is, used_is))

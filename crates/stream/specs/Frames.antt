@@ -2,6 +2,7 @@
 -- the lengths of its receptions, clock covariance, altitude and reference, u32 each, little-endian, where 0xFFFFFFFF
 -- marks an input that is absent; then the bytes of the inputs that are there, in this order. Definitions only.
 use Rattle.std.specs.Prelude.{ℕ, ◌+◌, ◌-◌, ◌%◌, min, true, false, cond, List, [], eqb, leb, ltb, length, take, drop}
+use Rattle.std.specs.Prelude as std
 use Rattle.std.proofs.Math.Option.{Option, none, some, get_or}
 use Rattle.refusals.specs.Refusals.{short_output, torn_file}
 use Rattle.words.specs.Words.{u32_at}
@@ -65,23 +66,24 @@ asked p = filed (get_or p.receptions []) p.clock p.altitude p.reference
 
 -- ---- its solve
 
-abbrev pub torn : Solved
-torn = record { whole = false; used = 0; number = 0 }
+-- nothing, where the stream ends within the problem
+abbrev pub torn : std.Option Solved
+torn = std.None
 
 -- the answer of the solve, and how many bytes of the stream the problem takes
-abbrev pub whole : ℕ → Parts → List ℕ → Solved
-whole used p out = record { whole = true; used = used; number = answer (asked p) out }
+abbrev pub whole : ℕ → Parts → List ℕ → std.Option Solved
+whole used p out = std.Some (record { used = used; number = answer (asked p) out })
 
 -- what becomes of a problem whose bytes after the lengths are at the start of `body`: nothing where they end before it
 -- does
-abbrev pub solved : Head → List ℕ → List ℕ → Solved
+abbrev pub solved : Head → List ℕ → List ℕ → std.Option Solved
 solved h body out = cond (leb (body_bytes h) (length body)) (whole (16 + body_bytes h) (parts_of h body) out) torn
 
 abbrev pub output_after : Head → List ℕ → List ℕ → List ℕ
 output_after h body out = cond (leb (body_bytes h) (length body)) (output (asked (parts_of h body)) out) out
 
 -- the same of a stream: nothing where it ends before its first problem does
-abbrev pub solved_next : List ℕ → List ℕ → Solved
+abbrev pub solved_next : List ℕ → List ℕ → std.Option Solved
 solved_next s out = cond (leb 16 (length s)) (solved (head_of s) (drop 16 s) out) torn
 
 abbrev pub output_next : List ℕ → List ℕ → List ℕ
@@ -89,12 +91,19 @@ output_next s out = cond (leb 16 (length s)) (output_after (head_of s) (drop 16 
 
 -- ---- what the caller gets who lends `out`, and a number for the bytes that the problem takes
 
+abbrev pub number_in : std.Option Solved → ℕ
+number_in std.None = torn_file
+number_in (std.Some first) = first.number
+
+abbrev pub used_in : std.Option Solved → ℕ → ℕ
+used_in std.None found = found
+used_in (std.Some first) found = first.used
+
 -- 14 where under 176 bytes are lent, tested first; 16, a torn file, where the stream ends within its first problem;
 -- otherwise the solve's answer
 abbrev pub next_answer : List ℕ → List ℕ → ℕ
 next_answer s out =
-    cond (ltb (length out) record_bytes) short_output
-    (cond (solved_next s out).whole (solved_next s out).number torn_file)
+    cond (ltb (length out) record_bytes) short_output (number_in (solved_next s out))
 
 -- for 14 and 16 output and number stay as found
 abbrev pub next_output : List ℕ → List ℕ → List ℕ
@@ -102,7 +111,7 @@ next_output s out = cond (ltb (length out) record_bytes) out (output_next s out)
 
 abbrev pub used_after : List ℕ → List ℕ → ℕ → ℕ
 used_after s out found =
-    cond (ltb (length out) record_bytes) found (cond (solved_next s out).whole (solved_next s out).used found)
+    cond (ltb (length out) record_bytes) found (used_in (solved_next s out) found)
 
 -- ---- inputs that are too long: the length of what is kept of each
 

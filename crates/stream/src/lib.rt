@@ -8,6 +8,8 @@ ghost use Rattle.stream.specs.Frames as frames;
 ghost use Rattle.stream.specs.Held.{present_of};
 ghost use Rattle.stream.specs.Held as held;
 
+use refusals::Refusal;
+
 // The bytes of the four lengths.
 pub const HEAD: usize = 16;
 
@@ -36,11 +38,9 @@ pub struct Head {
     pub reference: u32,
 }
 
-// The first problem of a stream: how many bytes it takes and document 01's answer number. It is not `whole` where the
-// stream ends within it, and then it is not solved.
+// The first problem of a stream: how many bytes it takes and document 01's answer number.
 #[derive(Clone, Copy)]
 pub struct Solved {
-    pub whole: bool,
     pub used: usize,
     pub number: u32,
 }
@@ -85,18 +85,9 @@ fn present_of(head: Head) -> u32
     bit(head.clock, 1) + bit(head.altitude, 2) + bit(head.reference, 4)
 }
 
-fn torn() -> Solved
-    ensures { result ≡ frames.torn }
-{
-    Solved {
-        whole: false,
-        used: 0,
-        number: 0,
-    }
-}
-
-// Solves the problem of these lengths whose inputs are at the start of `body`, one after the other.
-pub fn solve_body(head: Head, body: &[u8], out: &mut [u8]) -> Solved
+// Solves the problem of these lengths whose inputs are at the start of `body`, one after the other; none where `body`
+// ends before they do.
+pub fn solve_body(head: Head, body: &[u8], out: &mut [u8]) -> Option<Solved>
     ensures outcome { result ≡ frames.solved head body.now out.old }
     ensures output { out.new ≡ frames.output_after head body.now out.old }
 {
@@ -105,7 +96,7 @@ pub fn solve_body(head: Head, body: &[u8], out: &mut [u8]) -> Solved
     let reference = altitude + size_of(head.altitude);
     let end = reference + size_of(head.reference);
     if body.len() < end {
-        return torn();
+        return None;
     }
     let present = present_of(head);
     let number = entry::solve(
@@ -116,20 +107,19 @@ pub fn solve_body(head: Head, body: &[u8], out: &mut [u8]) -> Solved
         present,
         out,
     );
-    Solved {
-        whole: true,
+    Some(Solved {
         used: HEAD + end,
         number,
-    }
+    })
 }
 
-// Solves the first problem of a stream.
-pub fn solve_next(stream: &[u8], out: &mut [u8]) -> Solved
+// Solves the first problem of a stream; none where it ends within that.
+pub fn solve_next(stream: &[u8], out: &mut [u8]) -> Option<Solved>
     ensures outcome { result ≡ frames.solved_next stream.now out.old }
     ensures output { out.new ≡ frames.output_next stream.now out.old }
 {
     if stream.len() < HEAD {
-        return torn();
+        return None;
     }
     let head = head_of(stream);
     solve_body(head, &stream[HEAD..], out)
@@ -143,14 +133,15 @@ pub fn answer_next(stream: &[u8], out: &mut [u8], used: &mut u64) -> u32
     ensures used { used.new ≡ frames.used_after stream.now out.old used.old }
 {
     if out.len() < RECORD {
-        return refusals::SHORT_OUTPUT;
+        return Refusal::ShortOutput.number();
     }
-    let first = solve_next(stream, out);
-    if first.whole {
-        *used = first.used as u64;
-        return first.number;
+    match solve_next(stream, out) {
+        Some(first) => {
+            *used = first.used as u64;
+            first.number
+        }
+        None => Refusal::TornFile.number(),
     }
-    refusals::TORN_FILE
 }
 
 // Of receptions that are too many, one too many are kept, or, where they are torn, one byte fewer.

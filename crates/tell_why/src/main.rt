@@ -10,16 +10,9 @@
 
 use std::rt::Files;
 
-fn all(a: bool, b: bool, c: bool) -> bool {
-    a && b && c
-}
-
 // Number, detail and states, to standard output.
 fn write<R: Print + Eprint + Alloc>(rt: &R, head: &[u8], states: &[u8]) {
-    let mut result = rt.write_all(head);
-    if result.is_ok() {
-        result = rt.write_all(states);
-    }
+    let result = rt.write_all(head).and_then(|()| rt.write_all(states));
     host::written(rt, result, b"tell_why: standard output");
 }
 
@@ -32,25 +25,19 @@ fn tell<R: Files + Print + Eprint + Alloc>(rt: &R, folder: &[u8]) {
     let mut head = [0u8; 8];
     let mut states = [0u8; 640];
     let mut detail = 0u32;
-    let p = folder::read_receptions(rt, folder, &mut rs);
-    if !p.read {
+    let Ok(p) = folder::read_receptions(rt, folder, &mut rs) else {
         return;
-    }
-    let c = folder::read_file(rt, folder, b"clock.bin", &mut cs);
-    let a = folder::read_file(rt, folder, b"altitude.bin", &mut al);
-    let r = folder::read_file(rt, folder, b"reference.bin", &mut re);
-    let pn = p.n;
-    let cn = c.n;
-    let an = a.n;
-    let rn = r.n;
-    let present = folder::present(c.there, a.there, r.there);
-    if all(c.read, a.read, r.read) {
+    };
+    let clock = folder::read_file(rt, folder, b"clock.bin", &mut cs);
+    let altitude = folder::read_file(rt, folder, b"altitude.bin", &mut al);
+    let reference = folder::read_file(rt, folder, b"reference.bin", &mut re);
+    if let (Ok(c), Ok(a), Ok(r)) = (clock, altitude, reference) {
         let number = why::why(
-            &rs[..pn],
-            &cs[..cn],
-            &al[..an],
-            &re[..rn],
-            present,
+            &rs[..p.unwrap_or(0)],
+            &cs[..c.unwrap_or(0)],
+            &al[..a.unwrap_or(0)],
+            &re[..r.unwrap_or(0)],
+            folder::present(c.is_some(), a.is_some(), r.is_some()),
             &mut states,
             &mut detail,
         );
@@ -62,10 +49,7 @@ fn tell<R: Files + Print + Eprint + Alloc>(rt: &R, folder: &[u8]) {
 
 // Whether a word names a folder: it is not empty, and no option.
 fn is_name(word: &[u8]) -> bool {
-    if word.len() == 0 {
-        return false;
-    }
-    word[0] != b'-'
+    word.first().is_some_and(|byte| *byte != b'-')
 }
 
 fn main(rt: HostRuntime) {

@@ -10,8 +10,8 @@
 ghost use Rattle.std.specs.Prelude.{◌*◌, ◌≤◌, length, ◌≡◌};
 ghost use Rattle.receptions.specs.Receptions.{reception_bytes, reception_at, fields_of};
 
-use cases::{Compared, Tally};
-use inputs::{Check, Fault, Given};
+use cases::Compared;
+use inputs::{Fault, Given};
 use receptions::Fields;
 use std::io;
 use std::io::Read;
@@ -56,8 +56,8 @@ struct Outcome {
 
 fn refusal(fault: Fault) -> Outcome {
     Outcome {
-        number: inputs::number_of(fault) as u64,
-        detail: inputs::detail_of(fault) as u64,
+        number: fault.number() as u64,
+        detail: fault.detail() as u64,
         n: 0,
     }
 }
@@ -81,10 +81,9 @@ fn answered(
     let n = receptions.len() / receptions::RECEPTION_BYTES;
     let whole = receptions.len() % receptions::RECEPTION_BYTES == 0;
     let f = unpacked(receptions, n);
-    let check = inputs::check_inputs(f, whole, n, g, clock, altitude, reference);
-    match check {
-        Check::Refused(fault) => refusal(fault),
-        Check::Passed => {
+    match inputs::check_inputs(f, whole, n, g, clock, altitude, reference) {
+        Err(fault) => refusal(fault),
+        Ok(()) => {
             let made = inputs::problem_of(f, n, g, clock, altitude, reference);
             problem(made.n)
         }
@@ -102,50 +101,36 @@ fn expects(header: &[u8; 64], a: Outcome) -> bool {
 fn falsified(header: &[u8; 64], k: u64) -> [u8; 64] {
     let mut other = *header;
     let place = 32 + 8 * (k % 3) as usize;
-    other[place] = other[place] ^ 1;
+    other[place] ^= 1;
     other
 }
 
-// The case of this header, which is case k and whose files come next, compared.
-fn tried(input: &mut impl Read, header: &[u8; 64], k: u64) -> Compared {
+// The next case, which is case k: its header, and its files.
+fn next(input: &mut impl Read, k: u64) -> Option<Compared> {
+    let header: [u8; 64] = cases::start(input)?;
     let mut receptions = [0u8; 8200];
     let mut clock = [0u8; 8200];
     let mut altitude = [0u8; 8200];
     let mut reference = [0u8; 8200];
-    let a = cases::read(input, &mut receptions, length_of(words::u64_at(header, 0)));
-    let b = cases::read(input, &mut clock, length_of(words::u64_at(header, 8)));
-    let c = cases::read(input, &mut altitude, length_of(words::u64_at(header, 16)));
-    let d = cases::read(input, &mut reference, length_of(words::u64_at(header, 24)));
+    let a = cases::read(input, &mut receptions, length_of(words::u64_at(&header, 0)));
+    let b = cases::read(input, &mut clock, length_of(words::u64_at(&header, 8)));
+    let c = cases::read(input, &mut altitude, length_of(words::u64_at(&header, 16)));
+    let d = cases::read(input, &mut reference, length_of(words::u64_at(&header, 24)));
     let got = answered(
         &receptions[..a],
-        given(header),
+        given(&header),
         &clock[..b],
         &altitude[..c],
         &reference[..d],
     );
-    let other = falsified(header, k);
-    Compared {
-        same: expects(header, got),
+    let other = falsified(&header, k);
+    Some(Compared {
+        same: expects(&header, got),
         same_falsified: expects(&other, got),
-    }
-}
-
-// The next header, and whether there was one.
-fn next(input: &mut impl Read, header: &mut [u8; 64]) -> bool {
-    cases::read(input, header, 64) == 64
-}
-
-fn print(rt: &impl Print, tally: Tally) -> io::Result<()> {
-    cases::print(rt, tally)
+    })
 }
 
 fn main(rt: HostRuntime) -> io::Result<()> {
     let mut input = rt.stdin();
-    let mut header = [0u8; 64];
-    let mut tally = Tally::none();
-    while tally.compared < cases::MOST && next(&mut input, &mut header) {
-        let found = tried(&mut input, &header, tally.compared);
-        tally = tally.with(found);
-    }
-    print(&rt, tally)
+    cases::print(&rt, cases::replay(|k| next(&mut input, k)))
 }

@@ -1,33 +1,14 @@
--- A text grows by one byte after the other. Assumes nothing.
-use Prim.Native.Nat.{ℕ, zero, suc, ◌+◌, ◌-◌, ◌*◌, ◌/◌, ◌%◌, ◌^◌, ◌<◌, ◌≤◌}
+-- Decimal digits: as many as a u64 has, and those of the definition. Assumes nothing.
+use Prim.Native.Nat.{ℕ, zero, suc, ◌-◌, ◌*◌, ◌/◌, ◌%◌, ◌^◌, ◌<◌, ◌≤◌}
 use mathlib.Core.Path.{◌≡◌, refl, sym, ap, ◌∙◌}
 use mathlib.Core.Bool.{Bool, true, false, cond}
-use mathlib.Core.List.{List, [], ◌∷◌, ◌++◌, append_assoc, append-nil}
+use mathlib.Core.List.{List, [], ◌∷◌, ◌++◌}
 use native.Mathlib.Omega.{arith}
-use native.Mathlib.Nat.{add-zero}
 use native.Mathlib.Nat.{pow-suc, one-le-pow, pow-le-pow_right, zero-lt-suc, not-le_of_lt}
-use lib.Dec.{leb, lit<}
-use lib.ListN.{length, take, get_or, set}
-use lib.Seq.{take-suc, take-suc-set, take-length}
+use lib.Dec.{leb}
 use borrow.Author.Tests.{lt-ltb, le-ltb, leb-true, leb-false}
 use Rattle.io.specs.Digits.{hex_digit_ascii, last_digits, IsDigitCount}
 use Rattle.text.specs.Text.{decimal_to}
-
-pub begun : (b piece : List ℕ) (n : ℕ) → take (n + 0) b ≡ take n b ++ take 0 piece
-begun b piece n = rw (add-zero n, append-nil (take n b))
-
-pub one_more
-    : (b piece t : List ℕ) (n i : ℕ) → n + i < length b → i < length piece → take (n + i) b ≡ t ++ take i piece
-    → take (n + (i + 1)) (set b (n + i) (get_or piece i 0)) ≡ t ++ take (i + 1) piece
-one_more b piece t n i h g e =
-    let l : n + (i + 1) ≡ suc (n + i) = omega arith in
-    let m : i + 1 ≡ suc i = omega arith in
-    rw (l, m, take-suc-set b (n + i) (get_or piece i 0) h, e, take-suc piece i 0 g, append_assoc t (take i piece) (get_or piece i 0 ∷ []))
-
-pub all : (b piece t : List ℕ) (n i : ℕ) → i ≡ length piece → take (n + i) b ≡ t ++ take i piece → take (n + length piece) b ≡ t ++ piece
-all b piece t n i e h = rw (← e, h, e, take-length piece)
-
--- ---- decimal digits
 
 -- the fewest digits of a u64 are 20 at the most
 pub few : (n k : ℕ) → n < 2 ^ 64 → IsDigitCount 10 1 n k → k ≤ 20

@@ -30,14 +30,9 @@ pub fn with(text: Text, piece: &[u8]) -> Text
         × (result.n ≡ text.n + length piece.now) }
 {
     let mut bytes = text.bytes;
-    let n = text.n;
-    for i in 0..piece.len() {
-        bytes[n + i] = piece[i];
-    }
-    Text {
-        bytes,
-        n: n + piece.len(),
-    }
+    let n = text.n + piece.len();
+    bytes[text.n..n].copy_from_slice(piece);
+    Text { bytes, n }
 }
 
 // The text and a number more, in decimal digits.

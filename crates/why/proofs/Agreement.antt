@@ -1,5 +1,6 @@
 -- What is told of inputs agrees with the reply of their solve: the statement of specs/Meaning.antt, by the checks' outcome and the answer.
 -- Assumes nothing.
+use Rattle.std.proofs.Common.{Ok, Err}
 use mathlib.Core.Path.{◌≡◌, refl, ap, ◌∙◌}
 use mathlib.Core.Logic.{◌↔◌}
 use mathlib.Core.Bool.{Bool, true, false, cond}
@@ -10,15 +11,15 @@ use lib.Dec.{T, ltb}
 use lib.Ieee.{Float}
 use Rattle.screen.specs.Turns.{turn_of, clash_of}
 use Rattle.problem.specs.declared.Problem.{Problem}
+use Rattle.inputs.specs.Faults.{Check, passed}
 use Rattle.inputs.specs.declared.Fault.{Fault}
 use Rattle.inputs.specs.declared.Fault.TheVariants.{TornInput, TooMany, Disorder, BadField, ClockSize, Uncovered}
-use Rattle.inputs.specs.declared.Check.{Check}
-use Rattle.inputs.specs.declared.Check.TheVariants.{Passed, Refused}
 use Rattle.inputs.specs.Faults as faults
 use Rattle.inputs.specs.Inputs.{Inputs, check_inputs, problem_of}
 use Rattle.record.specs.declared.content.Fix.{Fix}
 use Rattle.rounds.specs.declared.answer.Refusal.{Refusal}
-use Rattle.rounds.specs.declared.answer.Refusal.TheVariants.{TooFew, NoConvergence, OutOfRange, Inconsistent, Singular, Ambiguous, Uncertain}
+use Rattle.rounds.specs.declared.answer.Refusal.TheVariants.{TooFew, NoConvergence, OutOfRange, NoFixedPoint, Inconsistent, Singular, Ambiguous}
+use Rattle.rounds.specs.declared.answer.Refusal.TheVariants.{Uncertain}
 use Rattle.rounds.specs.Setting.{Answer, fix, refused, no_fixed_point}
 use Rattle.rounds.specs.Solve.{refusal_number, refusal_detail, solve_problem}
 use Rattle.rounds.specs.Demand.{used_by}
@@ -41,6 +42,7 @@ refusal-above : (why : Refusal) → 0 < refusal_number why
 refusal-above (TooFew included) = omega arith
 refusal-above NoConvergence = omega arith
 refusal-above OutOfRange = omega arith
+refusal-above NoFixedPoint = omega arith
 refusal-above Inconsistent = omega arith
 refusal-above Singular = omega arith
 refusal-above Ambiguous = omega arith
@@ -71,29 +73,29 @@ module _ (I : Inputs) where
   unfolding states
   states-at c e out = ap (λ (k : Check). states_by k I out) e
 
-  module _ (e : check_inputs I ≡ Passed) where
+  module _ (e : check_inputs I ≡ passed) where
     verdict-of : (a : Answer Fix) → solve_problem (problem_of I) ≡ a → verdict I ≡ verdict_of a
-    verdict-of a q = verdict-at Passed e ∙ ap verdict_of q
+    verdict-of a q = verdict-at passed e ∙ ap verdict_of q
 
     states-of : (a : Answer Fix) → solve_problem (problem_of I) ≡ a → (out : List ℕ) → states I out ≡ states_of (problem_of I) a out
-    states-of a q out = states-at Passed e out ∙ ap (λ (b : Answer Fix). states_of (problem_of I) b out) q
+    states-of a q out = states-at passed e out ∙ ap (λ (b : Answer Fix). states_of (problem_of I) b out) q
 
     by_answer : (a : Answer Fix) → solve_problem (problem_of I) ≡ a → Agrees I (reply I)
     by_answer (fix x) q =
-        with_fix x (verdict-of (fix x) q) (reply-at Passed e ∙ ap (answered I.n (problem_of I).shown) q) (states-of (fix x) q)
+        with_fix x (verdict-of (fix x) q) (reply-at passed e ∙ ap (answered I.n (problem_of I).shown) q) (states-of (fix x) q)
         (by_mask (problem_of I) x)
     by_answer (refused why) q =
         with_refusal (refusal_number why) (refusal_detail why) (refusal-above why) (verdict-of (refused why) q)
-        (reply-at Passed e ∙ ap (answered I.n (problem_of I).shown) q) (states-of (refused why) q)
+        (reply-at passed e ∙ ap (answered I.n (problem_of I).shown) q) (states-of (refused why) q)
     by_answer no_fixed_point q =
         with_refusal 4 0 (omega arith) (verdict-of no_fixed_point q)
-        (reply-at Passed e ∙ ap (answered I.n (problem_of I).shown) q) (states-of no_fixed_point q)
+        (reply-at passed e ∙ ap (answered I.n (problem_of I).shown) q) (states-of no_fixed_point q)
 
   by-check : (c : Check) → check_inputs I ≡ c → Agrees I (reply I)
-  by-check (Refused fault) e =
-      with_refusal (faults.number_of fault) (faults.detail_of fault) (fault-above fault) (verdict-at (Refused fault) e) (reply-at (Refused fault) e)
-      (states-at (Refused fault) e)
-  by-check Passed e = by_answer e (solve_problem (problem_of I)) refl
+  by-check (Err fault) e =
+      with_refusal (faults.number_of fault) (faults.detail_of fault) (fault-above fault) (verdict-at (Err fault) e) (reply-at (Err fault) e)
+      (states-at (Err fault) e)
+  by-check (Ok _) e = by_answer e (solve_problem (problem_of I)) refl
 
 pub agrees-with-solve : AgreesWithSolve
 agrees-with-solve I = by-check I (check_inputs I) refl

@@ -1,10 +1,8 @@
 -- What a caller gets who asks why: the answer, its detail, and the states in the lent buffer. Definitions only.
-use Rattle.std.specs.Prelude.{cond, List, ℕ, ltb, length}
+use Rattle.std.specs.Prelude.{cond, List, ℕ, ltb, length, Ok, Err}
 use Rattle.refusals.specs.Refusals.{short_output}
 use Rattle.problem.specs.declared.Problem.{Problem}
-use Rattle.inputs.specs.declared.Check.{Check}
-use Rattle.inputs.specs.declared.Check.TheVariants.{Passed, Refused}
-use Rattle.inputs.specs.Faults.{number_of, detail_of}
+use Rattle.inputs.specs.Faults.{Check, number_of, detail_of}
 use Rattle.inputs.specs.Inputs.{Inputs, check_inputs, problem_of}
 use Rattle.record.specs.declared.content.Fix.{Fix}
 use Rattle.rounds.specs.Setting.{Answer, fix, refused, no_fixed_point}
@@ -26,12 +24,12 @@ states_of P no_fixed_point out = out
 -- ---- of the inputs, once they are checked
 
 abbrev pub verdict_by : Check → Inputs → Verdict
-verdict_by (Refused fault) I = record { number = number_of fault; detail = detail_of fault }
-verdict_by Passed I = verdict_of (solve_problem (problem_of I))
+verdict_by (Err fault) I = record { number = number_of fault; detail = detail_of fault }
+verdict_by (Ok _) I = verdict_of (solve_problem (problem_of I))
 
 abbrev pub states_by : Check → Inputs → List ℕ → List ℕ
-states_by (Refused fault) I out = out
-states_by Passed I out = states_of (problem_of I) (solve_problem (problem_of I)) out
+states_by (Err fault) I out = out
+states_by (Ok _) I out = states_of (problem_of I) (solve_problem (problem_of I)) out
 
 unfoldable pub verdict : Inputs → Verdict
 verdict I = verdict_by (check_inputs I) I

@@ -16,11 +16,10 @@ ghost use Rattle.why.specs.Held.{state_in};
 ghost use Rattle.why.specs.States.{rows_at, states_to};
 ghost use Rattle.why.specs.Why as why;
 
-use inputs::Check;
 use problem::Problem;
 use receptions::Fields;
 use record::Fix;
-use rounds::{Answer, Case};
+use rounds::Refusal;
 
 // The bytes of a state, and of the 32 that a buffer has room for.
 const STATE: usize = 20;
@@ -151,16 +150,14 @@ fn tell(p: Problem, fix: Fix, out: &mut [u8])
 }
 
 // The verdict on a problem by its answer, and the states where that is a fix.
-fn explained(p: Problem, answer: Answer, out: &mut [u8]) -> Verdict
+fn explained(p: Problem, answer: Result<Fix, Refusal>, out: &mut [u8]) -> Verdict
     requires { (p.n ≤ 32) × (640 ≤ length out.old) }
     ensures verdict { (a : setting.Answer content.Fix) → answer ≡ as_answer a → result ≡ why.verdict_of a }
     ensures states { (a : setting.Answer content.Fix) → answer ≡ as_answer a
         → out.new ≡ why.states_of p a out.old }
 {
-    let case = answer.case;
-    match case {
-        Case::Fix => {
-            let fix = answer.fix;
+    match answer {
+        Ok(fix) => {
             let dof = fix.dof;
             tell(p, fix, out);
             Verdict {
@@ -168,13 +165,9 @@ fn explained(p: Problem, answer: Answer, out: &mut [u8]) -> Verdict
                 detail: dof,
             }
         }
-        Case::Refused(why) => Verdict {
-            number: entry::number_of(why),
-            detail: entry::detail_of(why),
-        },
-        Case::NoFixedPoint => Verdict {
-            number: refusals::NO_FIXED_POINT,
-            detail: 0,
+        Err(why) => Verdict {
+            number: why.number(),
+            detail: why.detail(),
         },
     }
 }
@@ -199,13 +192,12 @@ fn asked(
         out.old }
 {
     let g = entry::given(present);
-    let found = inputs::check_inputs(f, whole, n, g, clock, altitude, reference);
-    match found {
-        Check::Refused(fault) => Verdict {
-            number: inputs::number_of(fault),
-            detail: inputs::detail_of(fault),
+    match inputs::check_inputs(f, whole, n, g, clock, altitude, reference) {
+        Err(fault) => Verdict {
+            number: fault.number(),
+            detail: fault.detail(),
         },
-        Check::Passed => {
+        Ok(()) => {
             let p = inputs::problem_of(f, n, g, clock, altitude, reference);
             let answer = rounds::solve_problem(p);
             explained(p, answer, out)
@@ -235,7 +227,7 @@ pub fn why(
         out.old detail.old }
 {
     if out.len() < STATES {
-        return refusals::SHORT_OUTPUT;
+        return refusals::Refusal::ShortOutput.number();
     }
     let n = receptions.len() / receptions::RECEPTION_BYTES;
     let whole = receptions.len() % receptions::RECEPTION_BYTES == 0;

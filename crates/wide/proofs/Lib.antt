@@ -1,4 +1,2 @@
 -- The laws that the proofs share.
-pub mod Words
-pub mod Digits
 pub mod Floor

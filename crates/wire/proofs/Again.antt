@@ -10,7 +10,6 @@ use lib.Ieee.{Float, nan, inf, fin, up, down, neg, round}
 use lib.Ieee.Fits.{down_pos}
 use borrow.Author.Tests.{le-leb}
 use Rattle.binary64.specs.Steps.{decimal}
-use Rattle.geo.specs.declared.Geodetic.{Geodetic}
 use Rattle.limits.specs.Heights.{min_height_m, max_height_m}
 use Rattle.wire.specs.declared.Wire.{Wire}
 use Rattle.wire.specs.Nearest.{signed, half_up}

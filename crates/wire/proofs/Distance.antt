@@ -6,7 +6,7 @@ use Prim.Native.Nat.{ℕ, zero, suc, ◌+◌, ◌-◌, ◌*◌, ◌%◌, ◌≤�
 use native.Mathlib.Nat.{le_antisymm, mod-lt, div-add-mod', mul-le-mul_right, zero-mul, zero-add, add-zero, div-eq_of_lt}
 use native.Mathlib.Omega.{arith}
 use lib.Dec.{ltb}
-use lib.IntN.{ℤ, pos, negsuc, neg_ℤ, nat_abs, ◌-ℤ◌, ◌*ℤ◌, sub_ℕ}
+use lib.IntN.{pos, negsuc, neg_ℤ, nat_abs, ◌-ℤ◌, ◌*ℤ◌, sub_ℕ}
 use borrow.Author.Tests.{ltb-true, ltb-false}
 use Rattle.binary64.proofs.Nearer.{either}
 use Rattle.wire.specs.Nearest.{signed, half_up, nearest}

@@ -13,12 +13,14 @@ use borrow.Author.Tests.{eqb-true, eqb-false}
 use Rattle.binary64.specs.Steps.{decimal}
 use Rattle.geo.specs.declared.Geodetic.{Geodetic}
 use Rattle.limits.specs.Heights.{min_height_m, max_height_m}
+use Rattle.std.specs.Prelude.{Result, Ok, Err}
+use Rattle.refusals.specs.declared.Refusal.{Refusal}
+use Rattle.refusals.specs.declared.Refusal.TheVariants.{BeyondTheWire}
+use Rattle.reader.specs.declared.content.Content.{Content}
 use Rattle.reader.specs.Read.{read_of}
 use Rattle.wire.specs.declared.Wire.{Wire}
-use Rattle.wire.specs.declared.Written.{Written}
-use Rattle.wire.specs.declared.Written.TheVariants as written
 use Rattle.wire.specs.Nearest.{signed}
-use Rattle.wire.specs.Wire.{per_degree, per_metre, in_units, within, writable, of_position, to_wire}
+use Rattle.wire.specs.Wire.{per_degree, per_metre, in_units, within, writable, of_position, of_reading, to_wire}
 use Rattle.wire.specs.Held.{AtMost}
 use Rattle.wire.specs.Meaning.{Nearest, IsNearest, WithinLimits, IsWritten, WritesExactly, RefusesOthers}
 use Rattle.wire.proofs.Meaning.{by_units}
@@ -26,41 +28,39 @@ use Rattle.wire.proofs.Arms.{whole, beyond, unread, fixless, fixed}
 use Rattle.wire.proofs.Limits.{small}
 
 -- ---- a refusal is no position
-abbrev tag : Written → ℕ
-tag (written.Whole w) = 0
-tag (written.Refused n) = 1
+abbrev tag : Result Wire Refusal → ℕ
+tag (Ok w) = 0
+tag (Err why) = 1
 
-never : {A : Type 0} (n : ℕ) (w : Wire) → written.Refused n ≡ written.Whole w → A
-never n w e = absurd (let z : ◌≡◌ {A = ℕ} 1 0 = ap tag e in omega arith)
+never : {A : Type 0} (why : Refusal) (w : Wire) → ◌≡◌ {A = Result Wire Refusal} (Err why) (Ok w) → A
+never why w e = absurd (let z : ◌≡◌ {A = ℕ} 1 0 = ap tag e in omega arith)
 
-abbrev held : Wire → Written → Wire
-held d (written.Whole w) = w
-held d (written.Refused n) = d
+abbrev held : Wire → Result Wire Refusal → Wire
+held d (Ok w) = w
+held d (Err why) = d
 
 -- ---- an outcome of `to_wire`, and one of `of_position`
 read_through
-    : (refusal answer : ℕ) (v : Written) (w : Wire)
-    → cond (eqb refusal 0) (cond (eqb answer 0) v (written.Refused 19)) (written.Refused refusal) ≡ written.Whole w
-    → (refusal ≡ 0) × (answer ≡ 0) × (v ≡ written.Whole w)
-read_through refusal answer v w = go (eqb refusal 0) (eqb answer 0) (eqb-true refusal 0) (eqb-true answer 0)
+    : (r : Result Content Refusal) (w : Wire) → of_reading r ≡ Ok w
+    → (v : Content) × (r ≡ Ok v) × (v.answer ≡ 0) × (of_position v.fix.position ≡ Ok w)
+read_through (Err why) w e = never why w e
+read_through (Ok v) w e = go (eqb v.answer 0) (eqb-true v.answer 0) e
   where
-    go : (b c : Bool) → (b ≡ true → refusal ≡ 0) → (c ≡ true → answer ≡ 0)
-        → cond b (cond c v (written.Refused 19)) (written.Refused refusal) ≡ written.Whole w
-        → (refusal ≡ 0) × (answer ≡ 0) × (v ≡ written.Whole w)
-    go true true x y e = (x refl, y refl, e)
-    go true false x y e = never 19 w e
-    go false c x y e = never refusal w e
+    go : (c : Bool) → (c ≡ true → v.answer ≡ 0) → cond c (of_position v.fix.position) (Err BeyondTheWire) ≡ Ok w
+        → (u : Content) × (◌≡◌ {A = Result Content Refusal} (Ok v) (Ok u)) × (u.answer ≡ 0) × (of_position u.fix.position ≡ Ok w)
+    go true y e = (v, refl, y refl, e)
+    go false y e = never BeyondTheWire w e
 
 abbrev units : Geodetic → Wire
 units p = record { lat = in_units per_degree p.lat_deg; lon = in_units per_degree p.lon_deg; height = in_units per_metre p.height_m }
 
-pub written_of : (p : Geodetic) (w : Wire) → of_position p ≡ written.Whole w → (writable p ≡ true) × (units p ≡ w)
+pub written_of : (p : Geodetic) (w : Wire) → of_position p ≡ Ok w → (writable p ≡ true) × (units p ≡ w)
 unfolding of_position
 written_of p w = go (writable p)
   where
-    go : (b : Bool) → cond b (written.Whole (units p)) (written.Refused 19) ≡ written.Whole w → (b ≡ true) × (units p ≡ w)
+    go : (b : Bool) → cond b (Ok (units p)) (Err BeyondTheWire) ≡ Ok w → (b ≡ true) × (units p ≡ w)
     go true e = (refl, ap (held w) e)
-    go false e = never 19 w e
+    go false e = never BeyondTheWire w e
 
 -- ---- the limits, as tests and as facts
 pair : (a b : Bool) → (a && b) ≡ true → T a × T b
@@ -117,54 +117,51 @@ nearest-only unit n (fin s m e) w h k =
     (by_units unit (fin s m e) s (m * up e) (down e) (down_pos e) (refl, refl)).1 w (k s (m * up e) (down e) (down_pos e) (refl, refl))
 
 -- ---- both ways
-is-written : (s : List ℕ) (w : Wire) → to_wire s ≡ written.Whole w → IsWritten s w
+is-written : (s : List ℕ) (w : Wire) → to_wire s ≡ Ok w → IsWritten s w
 unfolding to_wire
 is-written s w e =
-    let p = (read_of s).content.fix.position in
-    let o = read_through (read_of s).refusal (read_of s).content.answer (of_position p) w e in
-    let q = written_of p w o.2 in
+    let o = read_through (read_of s) w e in
+    let p = o.0.fix.position in
+    let q = written_of p w o.3 in
     record {
-      taken = o.0;
-      fix = o.1;
+      content = o.0;
+      taken = o.1;
+      fix = o.2;
       limited = limited p q.0;
       lat = nearest-at per_degree p.lat_deg w.lat (ap (λ (v : Wire). v.lat) q.1);
       lon = nearest-at per_degree p.lon_deg w.lon (ap (λ (v : Wire). v.lon) q.1);
       height = nearest-at per_metre p.height_m w.height (ap (λ (v : Wire). v.height) q.1);
     }
 
-is_whole : (s : List ℕ) (w : Wire) → IsWritten s w → to_wire s ≡ written.Whole w
+is_whole : (s : List ℕ) (w : Wire) → IsWritten s w → to_wire s ≡ Ok w
 is_whole s w k =
-    let p = (read_of s).content.fix.position in
+    let p = k.content.fix.position in
     let good : writable p ≡ true = passes p k.limited in
     let few = small p good in
-    sym (fixed s (read_of s) refl (written.Whole w) k.taken k.fix
-    (whole p {b = true} (sym good) refl
+    fixed s k.content k.taken k.fix
+    ∙ sym (whole p {b = true} (sym good) refl
     (nearest-only per_degree 90 p.lat_deg w.lat few.lat k.lat)
     (nearest-only per_degree 180 p.lon_deg w.lon few.lon k.lon)
-    (nearest-only per_metre 25000 p.height_m w.height few.height k.height)))
+    (nearest-only per_metre 25000 p.height_m w.height few.height k.height))
 
 pub writes-exactly : WritesExactly
 writes-exactly s w = (is-written s w, is_whole s w)
 
-others : (s : List ℕ) → (read_of s).refusal ≡ 0 → ((w : Wire) → IsWritten s w → ⊥) → to_wire s ≡ written.Refused 19
-others s z none = by_answer (eqb a 0) (eqb-true a 0) (eqb-false a 0)
+others : (s : List ℕ) (v : Content) → read_of s ≡ Ok v → ((w : Wire) → IsWritten s w → ⊥) → to_wire s ≡ Err BeyondTheWire
+others s v r none = by_answer (eqb v.answer 0) (eqb-true v.answer 0) (eqb-false v.answer 0)
   where
-    a : ℕ
-    a = (read_of s).content.answer
-
     p : Geodetic
-    p = (read_of s).content.fix.position
+    p = v.fix.position
 
-    by_place : (b : Bool) → writable p ≡ b → a ≡ 0 → to_wire s ≡ written.Refused 19
+    by_place : (b : Bool) → writable p ≡ b → v.answer ≡ 0 → to_wire s ≡ Err BeyondTheWire
     by_place true e f =
-        let units_of : written.Whole (units p) ≡ of_position p = whole p {b = true} (sym e) refl refl refl refl in
-        let made : written.Whole (units p) ≡ to_wire s = fixed s (read_of s) refl (written.Whole (units p)) z f units_of in
-        absurd (none (units p) (is-written s (units p) (sym made)))
-    by_place false e f = sym (fixed s (read_of s) refl (written.Refused 19) z f (beyond p {b = false} (sym e) refl))
+        let made : to_wire s ≡ Ok (units p) = fixed s v r f ∙ sym (whole p {b = true} (sym e) refl refl refl refl) in
+        absurd (none (units p) (is-written s (units p) made))
+    by_place false e f = fixed s v r f ∙ sym (beyond p {b = false} (sym e) refl)
 
-    by_answer : (b : Bool) → (b ≡ true → a ≡ 0) → (b ≡ false → a ≡ 0 → ⊥) → to_wire s ≡ written.Refused 19
+    by_answer : (b : Bool) → (b ≡ true → v.answer ≡ 0) → (b ≡ false → v.answer ≡ 0 → ⊥) → to_wire s ≡ Err BeyondTheWire
     by_answer true t f = by_place (writable p) refl (t refl)
-    by_answer false t f = sym (fixless s (read_of s) refl z (f refl))
+    by_answer false t f = fixless s v r (f refl)
 
 pub refuses-others : RefusesOthers
-refuses-others s = (λ n. sym (unread s (read_of s) refl n), others s)
+refuses-others s = (unread s, others s)

@@ -1,7 +1,7 @@
 -- `in_units` by the fields of a value's bits, where the value lies below 2 ^ 15 and a unit below 2 ^ 24. Assumes nothing.
 use mathlib.Core.Path.{◌≡◌, refl, sym, ap, ◌∙◌}
 use mathlib.Core.Bool.{Bool}
-use Prim.Native.Nat.{ℕ, zero, suc, ◌+◌, ◌-◌, ◌*◌, ◌/◌, ◌%◌, ◌^◌, ◌≤◌, ◌<◌}
+use Prim.Native.Nat.{ℕ, zero, suc, ◌+◌, ◌-◌, ◌*◌, ◌/◌, ◌^◌, ◌≤◌, ◌<◌}
 use native.Mathlib.Nat.{le_of_lt, lt_of_lt_of_le, lt_of_le_of_lt, mul_comm, mul_left_comm, mul-le-mul_left, mul-pos, pow-succ'}
 use native.Mathlib.Nat.{div-eq_of_lt, div-div-eq-div-mul, add-div_right}
 use native.Mathlib.Omega.{arith}
@@ -40,12 +40,9 @@ same p m' m X K L unit a b c = rw (a, b, c) (omega arith)
 up-half : (p K : ℕ) → 0 < K → (p + K) / (2 * K) ≡ (p / K + 1) / 2
 up-half p K z = ap (λ (y : ℕ). (p + K) / y) (mul_comm 2 K) ∙ sym (div-div-eq-div-mul (p + K) K 2) ∙ ap (λ (y : ℕ). y / 2) (add-div_right p z)
 
--- as the code has it: the product's words, shifted by 32 and by the rest of k
-words : (p : ℕ) → p / 2 ^ 64 * 2 ^ 32 + p % 2 ^ 64 / 2 ^ 32 ≡ p / 2 ^ 32
-words p = omega arith
-
+-- as the code has it: the product, shifted by 32 and by the rest of k
 pub large : (unit x t p : ℕ) → 998 ≤ x → x < 1038 → p ≡ (t + 2 ^ 52) * unit → (s : Bool)
-    → in_units unit (of_fields binary64 s x t) ≡ signed s (((p / 2 ^ 64 * 2 ^ 32 + p % 2 ^ 64 / 2 ^ 32) / 2 ^ (1042 - x) + 1) / 2)
+    → in_units unit (of_fields binary64 s x t) ≡ signed s ((p / 2 ^ 32 / 2 ^ (1042 - x) + 1) / 2)
 large unit zero t p l h e s = absurd (omega arith)
 large unit (suc x) t p l h e s =
     let k = 1074 - suc x in
@@ -57,7 +54,7 @@ large unit (suc x) t p l h e s =
     (same p (2 ^ 52 + t) (t + 2 ^ 52) (2 ^ x) K (2 ^ 1074) unit e (omega arith) (whole k (omega arith)))
     ∙ up-half p K z
     ∙ ap (λ (y : ℕ). (y + 1) / 2)
-    (sym (ap (λ (y : ℕ). y / 2 ^ (1042 - suc x)) (words p) ∙ shr-shr p 32 (1042 - suc x) ∙ ap (λ (y : ℕ). p / 2 ^ y) (rest x h))))
+    (sym (shr-shr p 32 (1042 - suc x) ∙ ap (λ (y : ℕ). p / 2 ^ y) (rest x h))))
   where
     rest : (x : ℕ) → suc x < 1038 → 32 + (1042 - suc x) ≡ 1074 - suc x
     rest x h = omega arith

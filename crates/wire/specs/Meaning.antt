@@ -1,16 +1,16 @@
 -- Document 02, item 5: what writing and reading back come to, in whole numbers. Statements only: proofs/ proves each.
-use Rattle.std.specs.Prelude.{◌≡◌, Bool, true, List, ℕ, ◌*◌, ◌≤◌, ◌<◌, T, ℤ, pos, nat_abs, ◌-ℤ◌, ◌*ℤ◌, Float}
+use Rattle.std.specs.Prelude.{◌≡◌, Bool, true, List, ℕ, ◌*◌, ◌≤◌, ◌<◌, T, ℤ, pos, nat_abs, ◌-ℤ◌, ◌*ℤ◌, Float, Ok, Err}
 use Rattle.std.specs.Float.Ieee.{le}
 use Rattle.std.specs.Float.Ieee.Exact.{HasValue}
-use Rattle.refusals.specs.Refusals.{beyond_the_wire}
+use Rattle.refusals.specs.declared.Refusal.{Refusal}
+use Rattle.refusals.specs.declared.Refusal.TheVariants.{BeyondTheWire}
 use Rattle.binary64.specs.Steps.{decimal}
 use Rattle.binary64.specs.Within.{Within}
 use Rattle.geo.specs.declared.Geodetic.{Geodetic}
 use Rattle.limits.specs.Heights.{min_height_m, max_height_m}
+use Rattle.reader.specs.declared.content.Content.{Content}
 use Rattle.reader.specs.Read.{read_of}
 use Rattle.wire.specs.declared.Wire.{Wire}
-use Rattle.wire.specs.declared.Written.TheVariants as written
-use Rattle.wire.specs.declared.Placed.TheVariants as placed
 use Rattle.wire.specs.Nearest.{signed, nearest}
 use Rattle.wire.specs.Wire.{per_degree, per_metre, in_units, of_position, to_wire, readable, from_wire}
 
@@ -51,25 +51,26 @@ pub record WithinLimits (p : Geodetic) : Type 0 where
 
 -- the bytes s are a record of a fix whose position is within the limits, and w has its nearest whole numbers
 pub record IsWritten (s : List ℕ) (w : Wire) : Type 0 where
-  pub taken : (read_of s).refusal ≡ 0
-  pub fix : (read_of s).content.answer ≡ 0
-  pub limited : WithinLimits (read_of s).content.fix.position
-  pub lat : IsNearest per_degree (read_of s).content.fix.position.lat_deg w.lat
-  pub lon : IsNearest per_degree (read_of s).content.fix.position.lon_deg w.lon
-  pub height : IsNearest per_metre (read_of s).content.fix.position.height_m w.height
+  pub content : Content
+  pub taken : read_of s ≡ Ok content
+  pub fix : content.answer ≡ 0
+  pub limited : WithinLimits content.fix.position
+  pub lat : IsNearest per_degree content.fix.position.lat_deg w.lat
+  pub lon : IsNearest per_degree content.fix.position.lon_deg w.lon
+  pub height : IsNearest per_metre content.fix.position.height_m w.height
 
 -- exactly such records are written, and as these whole numbers
 abbrev pub WritesExactly : Type 0
 WritesExactly =
     (s : List ℕ) (w : Wire)
-    → (to_wire s ≡ written.Whole w → IsWritten s w) × (IsWritten s w → to_wire s ≡ written.Whole w)
+    → (to_wire s ≡ Ok w → IsWritten s w) × (IsWritten s w → to_wire s ≡ Ok w)
 
 -- "Turned away: 19 beyond the wire, tested after the reader's refusals."
 abbrev pub RefusesOthers : Type 0
 RefusesOthers =
     (s : List ℕ)
-    → (((read_of s).refusal ≡ 0 → ⊥) → to_wire s ≡ written.Refused (read_of s).refusal)
-    × ((read_of s).refusal ≡ 0 → ((w : Wire) → IsWritten s w → ⊥) → to_wire s ≡ written.Refused beyond_the_wire)
+    → ((why : Refusal) → read_of s ≡ Err why → to_wire s ≡ Err why)
+    × ((v : Content) → read_of s ≡ Ok v → ((w : Wire) → IsWritten s w → ⊥) → to_wire s ≡ Err BeyondTheWire)
 
 -- ---- there and back
 
@@ -77,8 +78,8 @@ RefusesOthers =
 abbrev pub WritesWhatWasReadBack : Type 0
 WritesWhatWasReadBack =
     (w : Wire) → readable w ≡ true
-    → (p : Geodetic) × (from_wire w ≡ placed.At p) × (of_position p ≡ written.Whole w)
+    → (p : Geodetic) × (from_wire w ≡ Ok p) × (of_position p ≡ Ok w)
 
 -- "the same limits": whatever is written can be read back
 abbrev pub ReadsBackWhatWasWritten : Type 0
-ReadsBackWhatWasWritten = (p : Geodetic) (w : Wire) → of_position p ≡ written.Whole w → readable w ≡ true
+ReadsBackWhatWasWritten = (p : Geodetic) (w : Wire) → of_position p ≡ Ok w → readable w ≡ true

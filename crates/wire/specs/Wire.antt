@@ -1,19 +1,17 @@
 -- Document 02, item 5: "latitude and longitude in 10^-7 degree and height in millimetres, i32 each", written and read
 -- back. Definitions only.
-use Rattle.std.specs.Prelude.{ℕ, ◌*◌, Bool, true, false, cond, ◌&&◌, List, eqb, ℤ, pos, Float}
+use Rattle.std.specs.Prelude.{ℕ, ◌*◌, Bool, true, false, cond, ◌&&◌, List, eqb, ℤ, pos, Float, Result, Ok, Err}
 use Rattle.std.specs.Int.Signed.{le_z}
 use Rattle.std.specs.Float.{nan, inf, fin, binary64}
 use Rattle.std.specs.Float.Ieee.{up, down, neg, le, of_int}
-use Rattle.refusals.specs.Refusals.{beyond_the_wire}
+use Rattle.refusals.specs.declared.Refusal.{Refusal}
+use Rattle.refusals.specs.declared.Refusal.TheVariants.{BeyondTheWire}
 use Rattle.binary64.specs.Steps.{◌⊘◌, decimal}
 use Rattle.geo.specs.declared.Geodetic.{Geodetic}
 use Rattle.limits.specs.Heights.{min_height_m, max_height_m}
+use Rattle.reader.specs.declared.content.Content.{Content}
 use Rattle.reader.specs.Read.{read_of}
 use Rattle.wire.specs.declared.Wire.{Wire}
-use Rattle.wire.specs.declared.Written.{Written}
-use Rattle.wire.specs.declared.Written.TheVariants as written
-use Rattle.wire.specs.declared.Placed.{Placed}
-use Rattle.wire.specs.declared.Placed.TheVariants as placed
 use Rattle.wire.specs.Nearest.{signed, nearest}
 
 -- how many units a degree and a metre have
@@ -44,27 +42,25 @@ writable p =
     && (within (neg (decimal 180 0)) (decimal 180 0) p.lon_deg
     && within min_height_m max_height_m p.height_m)
 
-unfoldable pub of_position : Geodetic → Written
+unfoldable pub of_position : Geodetic → Result Wire Refusal
 unfolding writable in_units
 of_position p =
     cond (writable p)
-    (written.Whole (record {
+    (Ok (record {
       lat = in_units per_degree p.lat_deg;
       lon = in_units per_degree p.lon_deg;
       height = in_units per_metre p.height_m;
     }))
-    (written.Refused beyond_the_wire)
+    (Err BeyondTheWire)
 
 -- "records that hold no fix aren't written", "19 beyond the wire, tested after the reader's refusals"
-unfoldable pub to_wire : List ℕ → Written
+abbrev pub of_reading : Result Content Refusal → Result Wire Refusal
+of_reading (Ok v) = cond (eqb v.answer 0) (of_position v.fix.position) (Err BeyondTheWire)
+of_reading (Err why) = Err why
+
+unfoldable pub to_wire : List ℕ → Result Wire Refusal
 unfolding of_position
-to_wire s =
-    let read = read_of s in
-    cond (eqb read.refusal 0)
-    (cond (eqb read.content.answer 0)
-    (of_position read.content.fix.position)
-    (written.Refused beyond_the_wire))
-    (written.Refused read.refusal)
+to_wire s = of_reading (read_of s)
 
 -- ---- reading back
 
@@ -82,13 +78,13 @@ readable w =
 unfoldable pub back : ℕ → ℤ → Float
 back unit w = of_int binary64 w ⊘ decimal unit 0
 
-unfoldable pub from_wire : Wire → Placed
+unfoldable pub from_wire : Wire → Result Geodetic Refusal
 unfolding readable back
 from_wire w =
     cond (readable w)
-    (placed.At (record {
+    (Ok (record {
       lat_deg = back per_degree w.lat;
       lon_deg = back per_degree w.lon;
       height_m = back per_metre w.height;
     }))
-    (placed.Refused beyond_the_wire)
+    (Err BeyondTheWire)

@@ -2,24 +2,22 @@
 // millimetres, and back.
 #![tactic(auto)]
 
-ghost use Rattle.std.specs.Prelude.{◌≡◌, Bool, ◌&&◌, ◌*◌, ◌/◌, ◌%◌, ◌^◌, ◌<◌, nat_abs};
+ghost use Rattle.std.specs.Prelude.{◌≡◌, Bool, ◌*◌, ◌/◌, ◌%◌, ◌^◌, ◌<◌, nat_abs};
 ghost use Rattle.std.specs.Float.{binary64};
 ghost use Rattle.std.specs.Float.Ieee.{of_fields, to_bits};
 ghost use Rattle.wire.specs.Nearest.{signed};
-ghost use Rattle.wire.specs.Wire.{per_degree, per_metre, in_units, within, between, writable, of_position};
+ghost use Rattle.wire.specs.Wire.{in_units, writable, of_position};
 ghost use Rattle.wire.specs.Held.{AtMost};
-ghost use Rattle.wire.specs.Wire.{to_wire, readable, back, from_wire};
+ghost use Rattle.wire.specs.Wire.{to_wire, readable, from_wire};
 
 use geo::Geodetic;
+use refusals::Refusal;
 
 // The bits of an f64: the sign's weight, and that of the exponent's field, which is the place of the
 // leading digit.
 const SIGN: u64 = 0x8000_0000_0000_0000;
 
 const LEAD: u64 = 0x10_0000_0000_0000;
-
-// 2^32.
-const BASE: u64 = 0x1_0000_0000;
 
 // How many units a degree and a metre have.
 const PER_DEGREE: u64 = 10_000_000;
@@ -34,21 +32,6 @@ pub struct Wire {
     pub height: i32,
 }
 
-// A position as whole numbers, or the number of the refusal: 16 and 18 are the reader's, 19 is beyond
-// the wire.
-#[derive(Clone, Copy)]
-pub enum Written {
-    Whole(Wire),
-    Refused(u32),
-}
-
-// A position read back from whole numbers, or the number of the refusal, which is 19.
-#[derive(Clone, Copy)]
-pub enum Placed {
-    At(Geodetic),
-    Refused(u32),
-}
-
 // The whole number nearest to `unit` times the magnitude with these bits, a half up.
 fn magnitude(rest: u64, unit: u64) -> u64
     requires { (rest < 1038 * 2 ^ 52) × (unit < 2 ^ 24) }
@@ -61,8 +44,8 @@ fn magnitude(rest: u64, unit: u64) -> u64
     }
     // the magnitude is m / 2^(1075 - e); in units and doubled, it is p / 2^(1074 - e)
     let m = rest % LEAD + LEAD;
-    let p = wide::mul(m, unit);
-    let doubled = (p.hi * BASE + p.lo / BASE) >> (1042 - e);
+    let p = m as u128 * unit as u128;
+    let doubled = (p >> 32) as u64 >> (1042 - e);
     (doubled + 1) / 2
 }
 
@@ -94,101 +77,65 @@ fn nearest(x: f64, unit: u64) -> i32
     signed(bits >= SIGN, magnitude(bits % SIGN, unit))
 }
 
-pub fn both(a: bool, b: bool) -> bool
-    ensures { result ≡ (a && b) }
-{
-    if a {
-        return b;
-    }
-    false
-}
-
-// A not-a-number is within no limits.
-fn within(low: f64, high: f64, x: f64) -> bool
-    ensures { result ≡ within low high x }
-{
-    both(low <= x, x <= high)
-}
-
-pub fn between(low: i32, high: i32, w: i32) -> bool
-    ensures { result ≡ between low high w }
-{
-    both(low <= w, w <= high)
-}
-
-// Whether no coordinate is beyond the wire, each end included.
+// Whether no coordinate is beyond the wire, each end included. A not-a-number is.
 fn writable(p: Geodetic) -> bool
     ensures { result ≡ writable p }
 {
-    let lat = within(-90.0, 90.0, p.lat_deg);
-    let lon = within(-180.0, 180.0, p.lon_deg);
-    let height = within(limits::MIN_HEIGHT_M, limits::MAX_HEIGHT_M, p.height_m);
-    both(lat, both(lon, height))
+    let lat = -90.0 <= p.lat_deg && p.lat_deg <= 90.0;
+    let lon = -180.0 <= p.lon_deg && p.lon_deg <= 180.0;
+    let height = limits::MIN_HEIGHT_M <= p.height_m && p.height_m <= limits::MAX_HEIGHT_M;
+    lat && lon && height
 }
 
 // A position as whole numbers: 19 where a coordinate is beyond its limits.
-pub fn of_position(position: Geodetic) -> Written
+pub fn of_position(position: Geodetic) -> Result<Wire, Refusal>
     ensures { result ≡ of_position position }
 {
-    if writable(position) {
-        return Written::Whole(Wire {
-            lat: nearest(position.lat_deg, PER_DEGREE),
-            lon: nearest(position.lon_deg, PER_DEGREE),
-            height: nearest(position.height_m, PER_METRE),
-        });
+    if !writable(position) {
+        return Err(Refusal::BeyondTheWire);
     }
-    Written::Refused(refusals::BEYOND_THE_WIRE)
+    Ok(Wire {
+        lat: nearest(position.lat_deg, PER_DEGREE),
+        lon: nearest(position.lon_deg, PER_DEGREE),
+        height: nearest(position.height_m, PER_METRE),
+    })
 }
 
 // The position of a fix record as whole numbers: 16 and 18 as the reader gives them, then 19 where the
 // record holds no fix or its position is beyond the wire.
-pub fn to_wire(bytes: &[u8]) -> Written
+#[tactic(auto, unfolding(crate::specs::Wire::to_wire))]
+pub fn to_wire(bytes: &[u8]) -> Result<Wire, Refusal>
     ensures { result ≡ to_wire bytes.now }
 {
-    let reading = reader::read(bytes);
-    if reading.refusal != 0 {
-        return Written::Refused(reading.refusal);
-    }
-    let content = reading.content;
+    let content = reader::read(bytes)?;
     if content.answer != 0 {
-        return Written::Refused(refusals::BEYOND_THE_WIRE);
+        return Err(Refusal::BeyondTheWire);
     }
     let fix = content.fix;
     of_position(fix.position)
 }
 
 // Whether no whole number is beyond the same limits, in units.
+#[tactic(auto, unfolding(crate::specs::Wire::readable))]
 fn readable(w: Wire) -> bool
     ensures { result ≡ readable w }
 {
-    let lat = between(-900_000_000, 900_000_000, w.lat);
-    let lon = between(-1_800_000_000, 1_800_000_000, w.lon);
-    let height = between(-1_500_000, 25_000_000, w.height);
-    both(lat, both(lon, height))
-}
-
-fn degrees(w: i32) -> f64
-    ensures { result ≡ back per_degree w }
-{
-    w as f64 / 10_000_000.0
-}
-
-fn metres(w: i32) -> f64
-    ensures { result ≡ back per_metre w }
-{
-    w as f64 / 1_000.0
+    let lat = -900_000_000 <= w.lat && w.lat <= 900_000_000;
+    let lon = -1_800_000_000 <= w.lon && w.lon <= 1_800_000_000;
+    let height = -1_500_000 <= w.height && w.height <= 25_000_000;
+    lat && lon && height
 }
 
 // The position that whole numbers stand for, by one division each: 19 where one is beyond the limits.
-pub fn from_wire(wire: Wire) -> Placed
+pub fn from_wire(wire: Wire) -> Result<Geodetic, Refusal>
     ensures { result ≡ from_wire wire }
 {
-    if readable(wire) {
-        return Placed::At(Geodetic {
-            lat_deg: degrees(wire.lat),
-            lon_deg: degrees(wire.lon),
-            height_m: metres(wire.height),
-        });
+    if !readable(wire) {
+        return Err(Refusal::BeyondTheWire);
     }
-    Placed::Refused(refusals::BEYOND_THE_WIRE)
+    Ok(Geodetic {
+        lat_deg: wire.lat as f64 / 10_000_000.0,
+        lon_deg: wire.lon as f64 / 10_000_000.0,
+        height_m: wire.height as f64 / 1_000.0,
+    })
 }

@@ -1,8 +1,8 @@
 -- What the program writes for a record. Definitions only.
-use Rattle.std.specs.Prelude.{ℕ, List, replicate}
+use Rattle.std.specs.Prelude.{ℕ, List, replicate, Result, Ok, Err}
 use Rattle.wire.specs.declared.Wire.{Wire}
-use Rattle.wire.specs.declared.Written.{Written}
-use Rattle.wire.specs.declared.Written.TheVariants as written
+use Rattle.refusals.specs.declared.Refusal.{Refusal}
+use Rattle.refusals.specs.Refusals.{number_of}
 use Rattle.wire.specs.Wire.{to_wire}
 use Rattle.asterix.specs.Items.{to_answer, to_output}
 use Rattle.write_asterix.specs.declared.Items.{Items}
@@ -12,9 +12,9 @@ abbrev pub items_of_wire : Wire → Items
 items_of_wire w = record { refusal = to_answer w (replicate 10 0); bytes = to_output w (replicate 10 0) }
 
 -- a record that the wire does not take has its number and zeros
-abbrev pub items_of_written : Written → Items
-items_of_written (written.Whole w) = items_of_wire w
-items_of_written (written.Refused n) = record { refusal = n; bytes = replicate 10 0 }
+abbrev pub items_of_written : Result Wire Refusal → Items
+items_of_written (Ok w) = items_of_wire w
+items_of_written (Err why) = record { refusal = number_of why; bytes = replicate 10 0 }
 
 -- the bytes of a record: its items are written where the number is 0, and nothing otherwise
 abbrev pub items_of : List ℕ → Items

@@ -1,29 +1,17 @@
--- `archive::copy` meets its contract: after i turns i bytes are copied (`paste-suc`). Assumes nothing.
-use Prim.Native.Nat.{◌-◌, ◌≤◌}
-use mathlib.Core.Path.{◌≡◌, refl, ap, ◌∙◌}
-use native.Mathlib.Omega.{arith}
-use lib.ListN.{length, drop, length-set}
-use lib.Seq.{paste, paste-zero}
-use Rattle.archive.proofs.Pasted.{Copied-next}
+-- `archive::copy` meets its contract: the part that is written over has become the part that is copied (`pasted`). Assumes nothing.
+use Rattle.std.proofs.Common.{◌≡◌, arith, ◌+◌, ◌-◌, ap, sym, ◌∙◌, take, drop}
+use Rattle.archive.proofs.Pasted.{part_length, pasted}
 use Rattle.archive.proofs.copy.Goals as goal
 
-pub loop-i-init : goal.loop-i-init
-loop-i-init c = let start = c.args in (omega arith, refl, paste-zero start.to.now start.k (drop start.at start.s.now))
-
-pub loop-i-preserved : goal.loop-i-preserved
-loop-i-preserved c =
-    let start = c.args in (
-      omega arith,
-      rw length-set c.loop-i.invariant.1,
-      Copied-next start.to.now start.s.now c.loop-i.to start.k start.at c.loop-i.i
-          (omega arith) (omega arith) c.loop-i.invariant.2,
-    )
-
-pub shape_of-to : goal.shape_of-to
-shape_of-to c = c.loop-i.invariant.1
+pub copy_from_slice-requires : goal.copy_from_slice-requires
+copy_from_slice-requires c =
+    let n : c.args.k + c.args.count - c.args.k ≡ c.args.count = omega arith in
+    let m : c.args.at + c.args.count - c.args.at ≡ c.args.count = omega arith in
+    rw (n, m) (part_length c.args.to.now c.args.k c.args.count c.requires.1 ∙ sym (part_length c.args.s.now c.args.at c.args.count c.requires.0))
 
 pub returns : goal.returns
 returns c =
-    let start = c.args in
-    let e : c.loop-i.i ≡ start.count = omega arith in
-    c.loop-i.invariant.2 ∙ ap (paste start.to.now start.k (drop start.at start.s.now)) e
+    let n : c.args.k + c.args.count - c.args.k ≡ c.args.count = omega arith in
+    let m : c.args.at + c.args.count - c.args.at ≡ c.args.count = omega arith in
+    pasted c.args.to.now c.args.s.now _ c.args.k c.args.at c.args.count _ c.requires.0
+    (c.copy_from_slice.ensures.after ∙ ap (λ i. take i (drop c.args.at c.args.s.now)) m) (sym n)

@@ -1,5 +1,4 @@
 -- `archive::new_form` meets its contract: part behind part (`Formed`). Assumes nothing.
-use borrow.Author.Rules.{rules}
 use Prim.Native.Nat.{ℕ}
 use lib.ListN.{replicate, length-replicate}
 use Rattle.archive.proofs.Formed.{new-form}

@@ -4,7 +4,6 @@ use mir.ValLaws.{to_z-of_z}
 use mathlib.Core.Path.{◌∙◌}
 use Rattle.asterix.proofs.Signs.{back}
 use Rattle.asterix.specs.Multiples.{angle}
-use borrow.Author.Rules.{rules}
 use Rattle.asterix.proofs.angle.Goals as goal
 
 pub returns : goal.returns

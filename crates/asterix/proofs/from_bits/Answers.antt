@@ -1,7 +1,6 @@
 -- `asterix::from_bits` meets its contract: from the sign on the number is -1 less what the word lacks of its greatest value (`from-minus`).
 -- Assumes nothing.
 use Rattle.asterix.proofs.Signs.{from-plus, from-minus, from-minus-fits}
-use borrow.Author.Rules.{rules}
 use Rattle.asterix.proofs.from_bits.Goals as goal
 
 pub returns-then-n-half : goal.returns-then-n-half

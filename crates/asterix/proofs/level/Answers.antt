@@ -7,7 +7,6 @@ use Rattle.wire.specs.Nearest.{nearest}
 use Rattle.asterix.proofs.Rounding.{once}
 use Rattle.asterix.proofs.Signs.{back}
 use Rattle.asterix.specs.Multiples.{level}
-use borrow.Author.Rules.{rules}
 use Rattle.asterix.proofs.level.Goals as goal
 
 pub returns : goal.returns

@@ -8,7 +8,6 @@ use mir.Val.{to_z, of_z}
 use mir.ValLaws.{to_z-of_z}
 use Rattle.asterix.proofs.Signs.{back, by_sign}
 use Rattle.asterix.proofs.Rounding.{room, halved}
-use borrow.Author.Rules.{rules}
 use Rattle.asterix.proofs.nearest.Goals as goal
 
 fitting : (c : goal.After-size) → c.size.result * c.args.times ≤ 2 ^ 31 * 2 ^ 31

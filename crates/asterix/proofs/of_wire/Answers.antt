@@ -3,7 +3,6 @@ use mathlib.Core.Path.{ap, ◌∙◌}
 use Rattle.asterix.proofs.Signs.{back}
 use Rattle.asterix.proofs.Arms.{of-wire}
 use Rattle.asterix.specs.Multiples.{angle, level, turned}
-use borrow.Author.Rules.{rules}
 use Rattle.asterix.proofs.of_wire.Goals as goal
 
 pub returns : goal.returns

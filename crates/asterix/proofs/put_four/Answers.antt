@@ -1,6 +1,5 @@
 -- `asterix::put_four` meets its contract: its two halves, the higher first. Assumes nothing.
 use mathlib.Core.Path.{◌∙◌}
-use borrow.Author.Rules.{rules}
 use Rattle.asterix.proofs.put_four.Goals as goal
 
 pub returns : goal.returns

@@ -1,7 +1,6 @@
 -- `asterix::put_two` meets its contract: two bytes are written, the higher first. Assumes nothing.
 use native.Mathlib.Omega.{arith}
 use lib.ListN.{length-set}
-use borrow.Author.Rules.{rules}
 use Rattle.asterix.proofs.put_two.Goals as goal
 
 pub bounds-s-k-2 : goal.bounds-s-k-2

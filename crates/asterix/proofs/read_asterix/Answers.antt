@@ -4,15 +4,14 @@ use Prim.Native.Nat.{◌^◌}
 use Rattle.asterix.specs.Held.{complement}
 use Rattle.asterix.proofs.Signs.{back}
 use Rattle.asterix.proofs.Arms.{three, not-ten}
-use borrow.Author.Rules.{rules}
 use Rattle.asterix.proofs.read_asterix.Goals as goal
 
-pub returns-then-s-eq-LENGTH : goal.returns-then-s-eq-LENGTH
-returns-then-s-eq-LENGTH c =
-    three _ c.if-s-eq-LENGTH.true
-    (back c.from_bits.type_inv ∙ c.from_bits.ensures ∙ ap (complement (2 ^ 31)) c.four_at.ensures.0)
-    (back c.from_bits-then-s-eq-LENGTH.type_inv ∙ c.from_bits-then-s-eq-LENGTH.ensures ∙ ap (complement (2 ^ 31)) c.four_at-then-s-eq-LENGTH.ensures.0)
-    (back c.from_bits-then-s-eq-LENGTH-2.type_inv ∙ c.from_bits-then-s-eq-LENGTH-2.ensures ∙ ap (complement (2 ^ 15)) c.two_at.ensures.0)
+pub returns-then-s-ne-LENGTH : goal.returns-then-s-ne-LENGTH
+returns-then-s-ne-LENGTH c = not-ten _ c.if-s-ne-LENGTH.true
 
 pub returns : goal.returns
-returns c = not-ten _ c.if-s-eq-LENGTH.false
+returns c =
+    three _ c.if-s-ne-LENGTH.false
+    (back c.from_bits.type_inv ∙ c.from_bits.ensures ∙ ap (complement (2 ^ 31)) c.four_at.ensures.0)
+    (back c.from_bits-2.type_inv ∙ c.from_bits-2.ensures ∙ ap (complement (2 ^ 31)) c.four_at-2.ensures.0)
+    (back c.from_bits-3.type_inv ∙ c.from_bits-3.ensures ∙ ap (complement (2 ^ 15)) c.two_at.ensures.0)

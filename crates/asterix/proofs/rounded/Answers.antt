@@ -3,7 +3,6 @@ use Prim.Native.Nat.{◌%◌, ◌/◌, ◌<◌, ◌≤◌}
 use native.Mathlib.Nat.{mod-lt, div-le_self}
 use native.Mathlib.Omega.{arith}
 use Rattle.asterix.proofs.Rounding.{down, up}
-use borrow.Author.Rules.{rules}
 use Rattle.asterix.proofs.rounded.Goals as goal
 
 pub overflow_mul-n : goal.overflow_mul-n

@@ -3,7 +3,6 @@ use mathlib.Core.Path.{ap, ◌∙◌}
 use Rattle.asterix.specs.declared.Multiples.{Multiples}
 use Rattle.asterix.specs.Items.{write_answer, write_output}
 use Rattle.asterix.proofs.Arms.{exports, refuses}
-use borrow.Author.Rules.{rules}
 use Rattle.asterix.proofs.to_asterix.Goals as goal
 
 pub returns-then-not-on_globe : goal.returns-then-not-on_globe

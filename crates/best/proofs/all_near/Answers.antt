@@ -1,18 +1,31 @@
--- `best::all_near` meets its contract. The invariant: `so_far` says that the first i sites are near. Assumes nothing.
+-- `best::all_near` meets its contract. `all` over the indices is the definition's recursion. Assumes nothing.
 use borrow.Author.Rules.{rules}
-use mathlib.Core.Path.{◌≡◌, refl}
+use borrow.Author.Tests.{tests}
+use mathlib.Core.Path.{◌≡◌, refl, ap, ◌∙◌}
+use mathlib.Core.Bool.{Bool, ◌&&◌}
+use mathlib.Core.List.{List}
+use Prim.Native.Nat.{ℕ, zero, suc}
 use native.Mathlib.Omega.{arith}
-use native.Mathlib.Numerals.{add-one}
-use Rattle.best.specs.Plausible.{near_to}
+use lib.Ieee.{Float, le}
+use Rattle.std.specs.List.{list_all, range_with_len}
+use Rattle.std.proofs.lemmas.Iterator.{YieldsList-from_range}
+use Rattle.std.proofs.lemmas.Iterator.Search.{all_from_yields_List}
+use Rattle.problem.specs.Problem.{range}
+use Rattle.best.specs.Plausible.{max_range_m, near_to}
+use Rattle.best.proofs.Ranges.{all-next}
 use Rattle.best.proofs.all_near.Goals as goal
 
-pub loop-i-init : goal.loop-i-init
-unfolding near_to
-loop-i-init c = (search rules, refl)
+abbrev within : List Float → List Float → ℕ → Bool
+within sites x i = le (range sites x i) max_range_m
 
-pub loop-i-preserved : goal.loop-i-preserved
+near-is : (sites x : List Float) (k : ℕ) → list_all (within sites x) (range_with_len 0 k) ≡ near_to sites x k
 unfolding near_to
-loop-i-preserved c = (omega arith, rw (add-one, c.both-so_far.ensures, c.near.ensures, c.loop-i.invariant.1))
+near-is sites x zero = refl
+near-is sites x (suc k) = all-next (within sites x) k ∙ ap (λ (b : Bool). b && within sites x k) (near-is sites x k)
 
 pub returns : goal.returns
-returns c = let e : c.loop-i.i ≡ c.args.k = omega arith in rw (← e, c.loop-i.invariant.1)
+returns c =
+    let s = c.args in
+    all_from_yields_List (within s.sites.now s.x) _ _ _ c.all.ensures.ran (YieldsList-from_range 0 s.k s.k refl (omega arith))
+    (λ x b q k. search (rules, tests))
+    ∙ near-is s.sites.now s.x s.k

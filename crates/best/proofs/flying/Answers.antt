@@ -2,5 +2,8 @@
 use Rattle.limits.proofs.Constants.{lowest, highest}
 use Rattle.best.proofs.flying.Goals as goal
 
-pub returns : goal.returns
-returns c = rw (lowest, highest) c.both.ensures
+pub returns-then-height : goal.returns-then-height
+returns-then-height c = rw (lowest, highest, c.if-height.true)
+
+pub returns-else-height : goal.returns-else-height
+returns-else-height c = rw (lowest, highest, c.if-height.false)

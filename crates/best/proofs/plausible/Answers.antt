@@ -22,5 +22,5 @@ pub returns-then-flying : goal.returns-then-flying
 returns-then-flying c = by_parts _ _ _ c.requires.1 c.flying.ensures
     (rw c.if-flying.true c.all_near.ensures)
 
-pub returns : goal.returns
-returns c = by_parts _ _ _ c.requires.1 c.flying.ensures (rw c.if-flying.false)
+pub returns-else-flying : goal.returns-else-flying
+returns-else-flying c = by_parts _ _ _ c.requires.1 c.flying.ensures (rw c.if-flying.false)

@@ -6,6 +6,6 @@ pub returns-then-is_finite : goal.returns-then-is_finite
 unfolding better
 returns-then-is_finite c = rw (← c.is_finite.ensures, c.if-is_finite.true)
 
-pub returns : goal.returns
+pub returns-else-is_finite : goal.returns-else-is_finite
 unfolding better
-returns c = rw (← c.is_finite.ensures, c.if-is_finite.false)
+returns-else-is_finite c = rw (← c.is_finite.ensures, c.if-is_finite.false)

@@ -8,11 +8,11 @@ use Rattle.damped.proofs.damped.Goals as goal
 
 pub loop-i-init : goal.loop-i-init
 unfolding damped_to
-loop-i-init c = (omega arith, refl)
+loop-i-init c = refl
 
 pub loop-i-preserved : goal.loop-i-preserved
 unfolding damped_to
-loop-i-preserved c = (omega arith, rw (add-one, least-bits, ← c.loop-i.invariant.1, ← c.max.ensures))
+loop-i-preserved c = rw (add-one, least-bits, ← c.loop-i.invariant, ← c.max.ensures)
 
 pub returns : goal.returns
-returns c = let all : c.loop-i.i ≡ 4 = omega arith in rw all at c.loop-i.invariant.1
+returns c = let all : c.loop-i.i ≡ 4 = omega arith in rw all at c.loop-i.invariant

@@ -3,11 +3,10 @@
 use Rattle.damped.specs.Damped.{descent}
 use Rattle.damped.proofs.descent.Goals as goal
 
-pub returns-then-cholesky : goal.returns-then-cholesky
+pub returns-then-not-cholesky : goal.returns-then-not-cholesky
 unfolding descent
-returns-then-cholesky c =
-    rw (← c.cholesky.ensures, c.if-cholesky.true, c.solve.ensures)
+returns-then-not-cholesky c = rw (← c.cholesky.ensures, c.if-not-cholesky.true)
 
 pub returns : goal.returns
 unfolding descent
-returns c = rw (← c.cholesky.ensures, c.if-cholesky.false)
+returns c = rw (← c.cholesky.ensures, c.if-not-cholesky.false, c.solve.ensures)

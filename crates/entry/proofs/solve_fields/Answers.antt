@@ -13,7 +13,7 @@ pub returns-then-out-lt-RECORD : goal.returns-then-out-lt-RECORD
 returns-then-out-lt-RECORD c = λ at held.
     let lent : (ℕ → Reception) → Inputs =
     λ at. inputs_of c.args.whole c.args.n at (given c.args.present) c.args.clock.now c.args.altitude.now c.args.reference.now in
-    short-promise (lent at) c.args.out.now c.if-out-lt-RECORD.true
+    rw c.number.ensures (short-promise (lent at) c.args.out.now c.if-out-lt-RECORD.true)
 
 pub returns : goal.returns
 returns c = λ at held.

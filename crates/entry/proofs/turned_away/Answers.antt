@@ -3,11 +3,11 @@ use Rattle.entry.proofs.Replies.{away-reply, bare-reply}
 use Rattle.entry.proofs.turned_away.Goals as goal
 
 pub returns-then-n-le-MOST : goal.returns-then-n-le-MOST
-returns-then-n-le-MOST c = away-reply c.refused.result c.args.fault c.number_of-number.result
-    c.detail_of-detail.result c.args.n c.number_of-number.ensures
-    c.detail_of-detail.ensures c.refused.ensures
+returns-then-n-le-MOST c = away-reply c.refused.result c.args.fault c.number-number.result
+    c.detail-detail.result c.args.n c.number-number.ensures
+    c.detail-detail.ensures c.refused.ensures
 
 pub returns : goal.returns
-returns c = bare-reply c.refused-2.result c.args.fault c.number_of-number.result
-    c.detail_of-detail.result c.args.n c.number_of-number.ensures
-    c.detail_of-detail.ensures (c.requires c.if-n-le-MOST.false) c.refused-2.ensures
+returns c = bare-reply c.refused-2.result c.args.fault c.number-number.result
+    c.detail-detail.result c.args.n c.number-number.ensures
+    c.detail-detail.ensures (c.requires c.if-n-le-MOST.false) c.refused-2.ensures

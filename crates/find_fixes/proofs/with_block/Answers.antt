@@ -31,5 +31,5 @@ returns c =
             refusal = c.worse-refusal.result;
           })
           e;
-      refusal = c.worse-refusal.ensures ∙ ap (λ (r : ℕ). cond (eqb r 0) args.best.refusal r) c.nearest_refusal.ensures;
+      refusal = c.worse-refusal.ensures ∙ ap (λ (r : ℕ). cond (eqb r 0) args.best.refusal r) (c.answer.ensures ∙ c.check_nearest.ensures);
     }

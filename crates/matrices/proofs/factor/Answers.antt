@@ -49,13 +49,13 @@ slice_bounds-l-end-then-found c =
     let left = c.cholesky-found.auto.l ∙ lent_length c.args.n (omega arith) in
     simp length-append (omega (arith, left, room c.args.n (omega arith)))
 
-pub slice_bounds-copy-end : goal.slice_bounds-copy-end
-slice_bounds-copy-end c =
+pub slice_bounds-copy_from_slice-end : goal.slice_bounds-copy_from_slice-end
+slice_bounds-copy_from_slice-end c =
     let left = c.cholesky-found.auto.l ∙ lent_length c.args.n (omega arith) in
     rw (take_at _ _ _ left) (sym left)
 
-pub copy-requires : goal.copy-requires
-copy-requires c =
+pub copy_from_slice-requires : goal.copy_from_slice-requires
+copy_from_slice-requires c =
     let left = c.cholesky-found.auto.l ∙ lent_length c.args.n (omega arith) in
     rw (take_at _ _ _ left) (omega (arith, left))
 
@@ -64,7 +64,7 @@ returns-then-found c =
     let left = c.cholesky-found.auto.l ∙ lent_length c.args.n (omega arith) in
     let known = told c.args.n c.args.a.now _ _ true (omega arith) c.cholesky-found.ensures c.if-found.true in record {
       answer = ap calls.factor_answer known;
-      output = c.copy.ensures ∙ take_at _ _ _ left ∙ ap (λ (f : Factor). calls.factor_output f c.args.out.now) known;
+      output = c.copy_from_slice.ensures.after ∙ take_at _ _ _ left ∙ ap (λ (f : Factor). calls.factor_output f c.args.out.now) known;
     }
 
 pub returns : goal.returns

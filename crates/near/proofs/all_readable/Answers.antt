@@ -1,24 +1,15 @@
--- `near::all_readable` meets its contract. The invariant: those at the places before k are readable. Assumes nothing.
-use Rattle.std.proofs.Common.{◌≡◌, ◌-◌, ◌≤◌, true, sym, refl, ◌∙◌, arith, rules}
-use Rattle.near.specs.Near.{readable_to}
-use Rattle.near.proofs.Records.{one_more, one-is-not}
+-- `near::all_readable` meets its contract: the places are tested one by one (`readable-each`). Assumes nothing.
+use Rattle.std.proofs.Common.{rules, ◌∙◌, refl, arith}
+use borrow.Author.Tests.{tests}
+use Rattle.std.proofs.lemmas.Iterator.{YieldsList-from_range}
+use Rattle.std.proofs.lemmas.Iterator.Search.{all_from_yields_List}
+use Rattle.near.specs.Near.{readable}
+use Rattle.near.proofs.Records.{readable-each}
 use Rattle.near.proofs.all_readable.Goals as goal
-
-pub loop-k-init : goal.loop-k-init
-unfolding readable_to
-loop-k-init c = (omega arith, refl)
-
-pub returns-then-not-readable : goal.returns-then-not-readable
-returns-then-not-readable c =
-    sym (one-is-not _ _ c.loop-k.k (omega arith)
-    (sym c.readable.ensures ∙ c.if-not-readable.true))
-
-pub loop-k-preserved : goal.loop-k-preserved
-loop-k-preserved c =
-    let loop = c.loop-k in
-    (omega arith, one_more _ loop.k loop.invariant.1 (sym c.readable.ensures ∙ c.if-not-readable.false))
 
 pub returns : goal.returns
 returns c =
-    let e : c.loop-k.k ≡ c.args.n = omega arith in
-    sym (rw e at c.loop-k.invariant.1)
+    let file = c.args.file.now in
+    all_from_yields_List (readable file) _ _ c.all.result c.all.ensures.ran (YieldsList-from_range 0 c.args.n c.args.n refl (omega arith))
+    (λ x b q k. search (rules, tests))
+    ∙ readable-each file c.args.n

@@ -1,5 +1,4 @@
 -- `near::distance` meets its contract. By the definition. Assumes nothing.
-use Rattle.std.proofs.Common.{rules}
 use Rattle.near.specs.Near.{distance}
 use Rattle.near.proofs.distance.Goals as goal
 

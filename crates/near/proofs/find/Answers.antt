@@ -1,5 +1,5 @@
 -- `near::find` meets its contract: the place that is held is the choice's (`held_place`). Assumes nothing.
-use Rattle.std.proofs.Common.{ap, ◌∙◌, rules}
+use Rattle.std.proofs.Common.{ap, ◌∙◌}
 use Rattle.near.specs.declared.Held.{Held}
 use Rattle.near.specs.Near.{distance_at, nearest_to}
 use Rattle.near.proofs.Steps.{held_place}

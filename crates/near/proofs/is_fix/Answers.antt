@@ -1,5 +1,4 @@
 -- `near::is_fix` meets its contract. By the definition. Assumes nothing.
-use Rattle.std.proofs.Common.{rules}
 use Rattle.near.specs.Near.{is_fix}
 use Rattle.near.proofs.is_fix.Goals as goal
 

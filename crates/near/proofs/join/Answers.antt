@@ -1,7 +1,6 @@
 -- `near::join` meets its contract. Each return is a case of the step that joins the parts. Assumes nothing.
-use Rattle.std.proofs.Common.{◌≡◌, ℕ, ◌+◌, ◌%◌, ◌^◌, true, false, refl, ap, ◌∙◌, rules}
+use Rattle.std.proofs.Common.{◌≡◌, ℕ, ◌+◌, ◌%◌, ◌^◌, false, refl, ap, ◌∙◌}
 use borrow.Author.Tests.{not-true, not-false}
-use lib.Ieee.{lt}
 use Rattle.near.specs.declared.Held.{Held}
 use Rattle.near.specs.Near.{step}
 use Rattle.near.specs.Parts.{joined}

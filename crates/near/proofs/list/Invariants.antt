@@ -1,9 +1,8 @@
 -- `near::list` meets its contract. The invariant: the places before k are listed and counted (`Listing`), so that the count is at most
 -- k and there is room for the next. Assumes nothing.
-use Rattle.std.proofs.Common.{◌≡◌, ◌-◌, ◌≤◌, sym, ◌∙◌, ⊎_elim, arith, rules}
+use Rattle.std.proofs.Common.{◌-◌, ◌≤◌}
 use Rattle.near.specs.Near.{within}
-use Rattle.near.proofs.Records.{there}
-use Rattle.near.proofs.Listing.{Listing, begun, added, skipped, room}
+use Rattle.near.proofs.Listing.{Listing}
 use Rattle.near.proofs.list.Given as goal
 
 abbrev pub invariant-loop-k : goal.invariant-loop-k

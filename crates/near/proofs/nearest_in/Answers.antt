@@ -1,5 +1,5 @@
 -- `near::nearest_in` meets its contract: the test is the definition's, and n records are 176 * n bytes. Assumes nothing.
-use Rattle.std.proofs.Common.{arith, rules, eq-eqb, ne_eqb}
+use Rattle.std.proofs.Common.{eq-eqb, ne_eqb}
 use Rattle.near.specs.Parts.{nearest_in}
 use Rattle.near.proofs.nearest_in.Goals as goal
 

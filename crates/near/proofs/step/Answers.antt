@@ -1,5 +1,5 @@
 -- `near::step` meets its contract. Each return is a case of the definition. Assumes nothing.
-use Rattle.std.proofs.Common.{sym, ◌∙◌, rules}
+use Rattle.std.proofs.Common.{sym, ◌∙◌}
 use borrow.Author.Tests.{not-true, not-false}
 use Rattle.near.specs.Near.{step}
 use Rattle.near.proofs.Steps.{first, closer-one, kept}

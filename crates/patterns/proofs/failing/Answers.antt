@@ -6,15 +6,14 @@ use Rattle.patterns.proofs.Rows.{filled-start, filled_next, filled-end}
 use Rattle.patterns.proofs.failing.Goals as goal
 
 pub loop-a-init : goal.loop-a-init
-loop-a-init c = (omega arith, refl, filled-start c.args.n c.args.pattern 32)
+loop-a-init c = (refl, filled-start c.args.n c.args.pattern 32)
 
 pub loop-a-preserved : goal.loop-a-preserved
 loop-a-preserved c =
     let at = c.loop-a in
     let s = c.args in (
-      omega arith,
-      rw length-set at.invariant.1,
-      filled_next s.n s.pattern at.rows at.a c.row.result (omega (arith, at.invariant.1)) c.row.ensures at.invariant.2,
+      rw length-set at.invariant.0,
+      filled_next s.n s.pattern at.rows at.a c.row.result (omega (arith, at.invariant.0)) c.row.ensures at.invariant.1,
     )
 
 pub returns : goal.returns
@@ -22,4 +21,4 @@ returns c =
     let s = c.args in
     let at = c.loop-a in
     let e : at.a ≡ s.n = omega arith in
-    filled-end s.n s.pattern at.rows (rw e at at.invariant.2)
+    filled-end s.n s.pattern at.rows (rw e at at.invariant.1)

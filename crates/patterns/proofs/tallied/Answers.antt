@@ -20,7 +20,7 @@ pub loop-p-init : goal.loop-p-init
 loop-p-init c =
     let n = c.args.n in
     let end = ap (λ (k : ℕ). 1 * 2 ^ k % 2 ^ 32) c.pairs.ensures ∙ one_bit (pairs n) (omega (arith, pairs-six n c.requires)) in
-    (omega arith, refl, tallied-start (left n) 7, end)
+    (refl, tallied-start (left n) 7, end)
 
 pub offset_bounds-counts-s : goal.offset_bounds-counts-s
 offset_bounds-counts-s c = omega (arith, c.survivors-s.ensures, left_le c.args.n c.loop-p.p)
@@ -32,7 +32,7 @@ pub overflow_add-counts : goal.overflow_add-counts
 overflow_add-counts c =
     let at = c.loop-p in
     let n = c.args.n in
-    omega (arith, at.invariant.2 c.survivors-s.result, tally-le (left n) at.p c.survivors-s.result)
+    omega (arith, at.invariant.1 c.survivors-s.result, tally-le (left n) at.p c.survivors-s.result)
 
 pub bounds-counts-s-in-loop-p : goal.bounds-counts-s-in-loop-p
 bounds-counts-s-in-loop-p c = omega (arith, c.survivors-s.ensures, left_le c.args.n c.loop-p.p)
@@ -42,16 +42,15 @@ loop-p-preserved c =
     let at = c.loop-p in
     let n = c.args.n in
     let s = c.survivors-s in
-    let room : s.result < length at.counts = omega (arith, at.invariant.1, s.ensures, left_le n at.p) in (
-      omega arith,
-      rw length-set at.invariant.1,
-      tallied-next (left n) at.counts at.p s.result s.ensures room at.invariant.2,
-      at.invariant.3,
+    let room : s.result < length at.counts = omega (arith, at.invariant.0, s.ensures, left_le n at.p) in (
+      rw length-set at.invariant.0,
+      tallied-next (left n) at.counts at.p s.result s.ensures room at.invariant.1,
+      at.invariant.2,
     )
 
 pub returns : goal.returns
 returns c =
     let at = c.loop-p in
     let n = c.args.n in
-    let all : at.p ≡ 2 ^ pairs n = omega (arith, at.invariant.3) in
-    tabled n at.counts at.invariant.1 (rw all at at.invariant.2)
+    let all : at.p ≡ 2 ^ pairs n = omega (arith, at.invariant.2) in
+    tabled n at.counts at.invariant.0 (rw all at at.invariant.1)

@@ -20,7 +20,7 @@ returns c =
     c.put_f64-2.ensures
     c.put_f64-3.ensures
     c.put_f64-4.ensures
-    (c.put_i64.ensures ∙ ap (λ (x : ℤ). put_i64 c.put_f64-4.new.r 72 x) back)
+    (c.put_i64.ensures ∙ ap (λ (x : ℤ). put_i64 c.put_f64-4.new.s 72 x) back)
     c.put_three-2.ensures
     c.put_three-3.ensures
     c.put_three-4.ensures

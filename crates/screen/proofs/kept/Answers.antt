@@ -13,4 +13,4 @@ returns-then-clear c =
     (c.first.ensures.0 ∙ (only-kept-is-left s.n (pairs_of s.rows.now) (first s.n)).0 (done clear), c.first.ensures.1)
 
 pub returns : goal.returns
-returns c = (c.removals-all.ensures.survivors, c.removals-all.ensures.within)
+returns c = (c.removals.ensures.survivors, c.removals.ensures.within)

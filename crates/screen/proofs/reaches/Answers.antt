@@ -1,10 +1,8 @@
 -- `screen::reaches` meets its contract: the squares decide (`root-reaches`) where they fit a word (`all-below`); elsewhere the baseline is at least
--- what one axis spans (`axis-reaches`), and where none spans enough the squares fit two words. Assumes nothing.
-use mathlib.Core.Path.{◌∙◌}
+-- what one axis spans (`axis-reaches`), or the squares decide in 128 bits. Assumes nothing.
 use Prim.Native.Nat.{ℕ, ◌*◌, ◌^◌, ◌≤◌}
 use native.Mathlib.Omega.{arith}
-use Rattle.wide.proofs.Words.{value-of}
-use Rattle.screen.proofs.Reach.{all-below, small-square, axis-reaches, root-reaches, squares-fit}
+use Rattle.screen.proofs.Reach.{all-below, small-square, axis-reaches, root-reaches}
 use Rattle.screen.proofs.reaches.Goals as goal
 
 -- each of the four is small, and so are the squares
@@ -50,24 +48,6 @@ returns-then-least-y c = axis-reaches _ _ _ c.if-least-y.true (omega arith)
 pub returns-then-least-z : goal.returns-then-least-z
 returns-then-least-z c = axis-reaches _ _ _ c.if-least-z.true (omega arith)
 
-pub add-requires : goal.add-requires
-add-requires c = let fit = squares-fit c.args.least c.args.x c.args.y c.args.z c.requires c.if-least-x.false c.if-least-y.false c.if-least-z.false in
-    rw (value-of c.mul.ensures, value-of c.mul-2.ensures) fit.0
-
-pub add-squared-requires : goal.add-squared-requires
-add-squared-requires c =
-    let fit = squares-fit c.args.least c.args.x c.args.y c.args.z c.requires c.if-least-x.false c.if-least-y.false c.if-least-z.false in
-    rw (value-of c.add.ensures, value-of c.mul.ensures, value-of c.mul-2.ensures, value-of c.mul-3.ensures) fit.1
-
 pub returns : goal.returns
 returns c =
-    c.le.ensures
-    ∙ rw (
-      value-of c.mul-4.ensures,
-      value-of c.add-squared.ensures,
-      value-of c.add.ensures,
-      value-of c.mul.ensures,
-      value-of c.mul-2.ensures,
-      value-of c.mul-3.ensures,
-    )
-    (root-reaches c.args.least _)
+    rw (c.squared.ensures, c.squared-2.ensures, c.squared-3.ensures, c.squared-4.ensures) (root-reaches c.args.least _)

@@ -8,7 +8,7 @@ use Rattle.screen.proofs.Numbers.{filled-start, filled_next, first_count, start-
 use Rattle.screen.proofs.start.Goals as goal
 
 pub loop-i-init : goal.loop-i-init
-loop-i-init c = (omega arith, refl, filled-start (start c.args.n (pairs_of c.args.rows.now)).counts 32)
+loop-i-init c = (refl, filled-start (start c.args.n (pairs_of c.args.rows.now)).counts 32)
 
 pub loop-i-preserved : goal.loop-i-preserved
 loop-i-preserved c =
@@ -17,10 +17,9 @@ loop-i-preserved c =
     let rows = c.args.rows.now in
     let n = c.args.n in
     let counted = first_count rows n all.result c.requires all.ensures.0 all.ensures.1 in (
-      omega arith,
-      rw length-set at.invariant.1,
+      rw length-set at.invariant.0,
       filled_next (start n (pairs_of rows)).counts at.counts at.i c.count.result (omega arith)
-          (counted at.i c.count.result (omega arith) c.count.ensures) at.invariant.2,
+          (counted at.i c.count.result (omega arith) c.count.ensures) at.invariant.1,
     )
 
 pub returns : goal.returns
@@ -29,4 +28,4 @@ returns c =
     let all = c.first-alive in
     let e : at.i ≡ c.args.n = omega arith in
     let held = start-held c.args.rows.now c.args.n all.result c.requires all.ensures.0 all.ensures.1 in
-    (held at.counts (rw e at at.invariant.2), all.ensures.1)
+    (held at.counts (rw e at at.invariant.1), all.ensures.1)

@@ -2,7 +2,6 @@
 use Prim.Native.Nat.{◌-◌, ◌%◌, min}
 use mathlib.Core.Path.{◌≡◌}
 use native.Mathlib.Omega.{arith}
-use borrow.Author.Rules.{rules}
 use borrow.Author.Tests.{eq-eqb, ne_eqb, lt-ltb}
 use Rattle.receptions.specs.Receptions.{reception_bytes}
 use Rattle.entry.specs.Cut.{one_too_many}

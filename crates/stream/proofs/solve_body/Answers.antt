@@ -1,7 +1,6 @@
 -- `stream::solve_body` meets its contract: the parts that it lends are the problem's inputs (`Solving`). Assumes nothing.
-use borrow.Author.Rules.{rules}
 use Prim.Native.Nat.{◌≤◌}
-use mathlib.Core.Path.{refl, sym, ◌∙◌}
+use mathlib.Core.Path.{refl, sym}
 use native.Mathlib.Omega.{arith}
 use lib.ListN.{length}
 use lib.Seq.{length-take-le}
@@ -16,7 +15,7 @@ returns-then-body-end c =
     c.size_of-2.ensures.0
     c.size_of-3.ensures.0
     refl c.if-body-end.true in record {
-      outcome = c.torn.ensures ∙ told.0;
+      outcome = told.0;
       output = told.1;
     }
 

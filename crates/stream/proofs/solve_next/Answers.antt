@@ -1,7 +1,5 @@
 -- `stream::solve_next` meets its contract: the lengths are read and the rest lent. Assumes nothing.
-use borrow.Author.Rules.{rules}
 use Prim.Native.Nat.{◌-◌}
-use mathlib.Core.Path.{◌∙◌}
 use native.Mathlib.Omega.{arith}
 use lib.ListN.{length, drop, length-drop}
 use lib.Seq.{take_all}
@@ -11,7 +9,7 @@ use Rattle.stream.proofs.solve_next.Goals as goal
 pub returns-then-stream-lt-HEAD : goal.returns-then-stream-lt-HEAD
 returns-then-stream-lt-HEAD c =
     let told = next-torn c.args.stream.now c.args.out.now c.if-stream-lt-HEAD.true in record {
-      outcome = c.torn.ensures ∙ told.0;
+      outcome = told.0;
       output = told.1;
     }
 

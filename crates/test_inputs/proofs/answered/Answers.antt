@@ -6,7 +6,7 @@ use Prim.Native.Nat.{ℕ, ◌/◌, ◌%◌}
 use lib.Dec.{eqb}
 use lib.ListN.{length}
 use Rattle.receptions.specs.Receptions.{reception_bytes, reception_at}
-use Rattle.inputs.specs.declared.Check.TheVariants.{Passed}
+use Rattle.inputs.specs.Faults.{passed}
 use Rattle.inputs.specs.Inputs.{Inputs, inputs_of, check_inputs}
 use Rattle.inputs.proofs.Order.{is_whole, few}
 use Rattle.test_inputs.proofs.answered.Goals as goal
@@ -19,6 +19,6 @@ problem_of-made-requires c =
     λ w. inputs_of w (length bytes / reception_bytes) (reception_at bytes) a.g a.clock.now a.altitude.now a.reference.now in
     let held = c.unpacked-f.ensures in
     let given : Inputs = lent (eqb (length bytes % reception_bytes) 0) in
-    let e : check_inputs given ≡ Passed = sym (c.check_inputs-check.ensures (reception_at bytes) held) ∙ c.in-Passed.is in
-    let passed = subst (λ (w : Bool). check_inputs (lent w) ≡ Passed) (is_whole given e) e in
-    (reception_at bytes, (held (few given e), passed))
+    let e : check_inputs given ≡ passed = sym (c.check_inputs.ensures (reception_at bytes) held) ∙ c.in-Ok.is in
+    let as_whole = subst (λ (w : Bool). check_inputs (lent w) ≡ passed) (is_whole given e) e in
+    (reception_at bytes, (held (few given e), as_whole))

@@ -3,8 +3,8 @@ use mathlib.Core.Path.{◌≡◌, sym, ap, ◌∙◌}
 use Prim.Native.Nat.{ℕ}
 use Rattle.receptions.specs.declared.Reception.{Reception}
 use Rattle.receptions.specs.Held.{Holds}
+use Rattle.inputs.specs.Faults.{passed}
 use Rattle.inputs.specs.declared.Given.{Given}
-use Rattle.inputs.specs.declared.Check.TheVariants.{Passed}
 use Rattle.inputs.specs.Inputs.{Inputs, inputs_of, check_inputs, problem_of}
 use Rattle.inputs.proofs.Order.{few}
 use Rattle.rounds.specs.Solve.{solve_problem}
@@ -19,8 +19,8 @@ problem_of-p-requires c =
     λ at g. inputs_of c.args.whole c.args.n at g c.args.clock.now c.args.altitude.now c.args.reference.now in
     let some = c.requires.0 in
     let I = lent some.0 c.given-g.result in
-    let check = c.check_inputs-found in
-    let e : check_inputs I ≡ Passed = sym (check.ensures some.0 some.1) ∙ c.in-Passed.is in
+    let check = c.check_inputs in
+    let e : check_inputs I ≡ passed = sym (check.ensures some.0 some.1) ∙ c.in-Ok.is in
     (some.0, (some.1 (few I e), came-whole I e))
 
 pub solve_problem-answer-requires : goal.solve_problem-answer-requires
@@ -29,8 +29,8 @@ solve_problem-answer-requires c =
     λ at g. inputs_of c.args.whole c.args.n at g c.args.clock.now c.args.altitude.now c.args.reference.now in
     let some = c.requires.0 in
     let I = lent some.0 c.given-g.result in
-    let check = c.check_inputs-found in
-    let small = few I (sym (check.ensures some.0 some.1) ∙ c.in-Passed.is) in
+    let check = c.check_inputs in
+    let small = few I (sym (check.ensures some.0 some.1) ∙ c.in-Ok.is) in
     (c.problem_of-p.ensures some.0 (some.1 small)).in_domain.most
 
 pub explained-requires : goal.explained-requires
@@ -39,18 +39,18 @@ explained-requires c =
     λ at g. inputs_of c.args.whole c.args.n at g c.args.clock.now c.args.altitude.now c.args.reference.now in
     let some = c.requires.0 in
     let I = lent some.0 c.given-g.result in
-    let check = c.check_inputs-found in
-    let small = few I (sym (check.ensures some.0 some.1) ∙ c.in-Passed.is) in
+    let check = c.check_inputs in
+    let small = few I (sym (check.ensures some.0 some.1) ∙ c.in-Ok.is) in
     ((c.problem_of-p.ensures some.0 (some.1 small)).in_domain.most, c.requires.1)
 
-pub returns-in-Refused : goal.returns-in-Refused
-returns-in-Refused c =
+pub returns-in-Err : goal.returns-in-Err
+returns-in-Err c =
     let lent : (ℕ → Reception) → Given → Inputs =
     λ at g. inputs_of c.args.whole c.args.n at g c.args.clock.now c.args.altitude.now c.args.reference.now in
-    let check = c.check_inputs-found in
-    let fault = c.in-Refused.is in
-    let number = c.number_of in
-    let detail = c.detail_of in
+    let check = c.check_inputs in
+    let fault = c.in-Err.is in
+    let number = c.number in
+    let detail = c.detail in
     let I : (ℕ → Reception) → Inputs = λ (at : ℕ → Reception). lent at c.given-g.result in record {
       verdict = λ at held.
           away-verdict (I at) check.result (check.ensures at held) _ number.result detail.result fault number.ensures detail.ensures
@@ -60,13 +60,13 @@ returns-in-Refused c =
           ∙ ap (λ (g : Given). states (lent at g) c.args.out.now) c.given-g.ensures;
     }
 
-pub returns-in-Passed : goal.returns-in-Passed
-returns-in-Passed c =
+pub returns-in-Ok : goal.returns-in-Ok
+returns-in-Ok c =
     let lent : (ℕ → Reception) → Given → Inputs =
     λ at g. inputs_of c.args.whole c.args.n at g c.args.clock.now c.args.altitude.now c.args.reference.now in
-    let check = c.check_inputs-found in
+    let check = c.check_inputs in
     let p = c.problem_of-p in
-    let passes = c.in-Passed.is in
+    let passes = c.in-Ok.is in
     let solved = c.solve_problem-answer.ensures in
     let I : (ℕ → Reception) → Inputs = λ (at : ℕ → Reception). lent at c.given-g.result in
     let is : (at : ℕ → Reception) → Holds c.args.f c.args.n at → p.result ≡ problem_of (I at) =

@@ -12,7 +12,7 @@ use Rattle.why.proofs.why.Goals as goal
 pub returns-then-out-lt-STATES : goal.returns-then-out-lt-STATES
 returns-then-out-lt-STATES c =
     let short = lt-ltb (length c.args.out.now) 640 c.if-out-lt-STATES.true in record {
-      answer = rw short;
+      answer = rw c.number.ensures (rw short);
       states = rw short;
       detail = rw short;
     }

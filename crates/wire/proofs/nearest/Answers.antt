@@ -1,6 +1,5 @@
 -- `wire::nearest` meets its contract: the size comes from the bits below the sign (`bits-low`), and the sign is the highest bit (`of-bits`).
 -- Assumes nothing.
-use borrow.Author.Rules.{rules}
 use mathlib.Core.Path.{◌≡◌, sym, ap, subst, ◌∙◌}
 use Prim.Native.Nat.{ℕ, ◌*◌, ◌%◌, ◌<◌, ◌^◌}
 use lib.Dec.{leb}

@@ -7,7 +7,6 @@ use mir.Val.{to_z, of_z}
 use mir.ValLaws.{to_z_pos, to_z-of_z}
 use Rattle.wire.specs.Nearest.{signed}
 use Rattle.wire.proofs.Words.{sized, minus, signed-fits}
-use borrow.Author.Rules.{rules}
 use Rattle.wire.proofs.signed.Goals as goal
 
 pub overflow_sub-result : goal.overflow_sub-result

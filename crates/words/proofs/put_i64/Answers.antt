@@ -6,5 +6,4 @@ use Rattle.words.proofs.put_i64.Goals as goal
 
 pub returns : goal.returns
 unfolding put_i64
-returns c =
-    rw (c.put_u64.ensures, c.bits.ensures, to_z-of_z w64 c.args.x c.ranges.x)
+returns c = rw (c.put_u64.ensures, c.cast_unsigned.ensures, to_z-of_z w64 c.args.x c.ranges.x)

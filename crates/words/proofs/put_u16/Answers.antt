@@ -1,14 +1,7 @@
--- `words::put_u16` meets its contract: two bytes are written, the lower first. Assumes nothing.
-use mathlib.Core.Path.{◌≡◌}
-use Prim.Native.Nat.{◌/◌, ◌%◌}
-use native.Mathlib.Omega.{arith}
-use lib.ListN.{length-set}
-use Rattle.words.specs.Words.{put_word, put_u16}
+-- `words::put_u16` meets its contract: the bytes are copied one after another (`copied_2`). Assumes nothing.
+use mathlib.Core.Path.{◌∙◌}
+use Rattle.words.proofs.Bytes.{copied_2}
 use Rattle.words.proofs.put_u16.Goals as goal
 
-pub bounds-s-k-2 : goal.bounds-s-k-2
-bounds-s-k-2 c = simp length-set (omega arith)
-
 pub returns : goal.returns
-unfolding put_u16 put_word
-returns c = let e : c.args.x / 256 % 256 ≡ c.args.x / 256 = omega arith in rw e
+returns c = copied_2 c.args.k c.args.x c.args.s.now _ c.requires (c.copy_from_slice.ensures.after ∙ c.to_le_bytes.ensures)

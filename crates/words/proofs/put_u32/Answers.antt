@@ -1,12 +1,7 @@
--- `words::put_u32` meets its contract: its halves are the parts of the word (`write-parts`). Assumes nothing.
-use mathlib.Core.Path.{sym, ◌∙◌}
-use Rattle.words.specs.Words.{put_u16, put_u32}
-use Rattle.words.proofs.Halves.{write-parts}
+-- `words::put_u32` meets its contract: the bytes are copied one after another (`copied_4`). Assumes nothing.
+use mathlib.Core.Path.{◌∙◌}
+use Rattle.words.proofs.Bytes.{copied_4}
 use Rattle.words.proofs.put_u32.Goals as goal
 
 pub returns : goal.returns
-unfolding put_u32 put_u16
-returns c =
-    let a = c.args in
-    c.put_u16-2.ensures ∙ rw c.put_u16.ensures
-    (sym (write-parts 2 2 a.s.now a.k a.x))
+returns c = copied_4 c.args.k c.args.x c.args.s.now _ c.requires (c.copy_from_slice.ensures.after ∙ c.to_le_bytes.ensures)

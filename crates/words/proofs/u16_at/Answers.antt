@@ -1,7 +1,8 @@
--- `words::u16_at` meets its contract: it is the pair, which fits. Assumes nothing.
-use Rattle.words.specs.Words.{u16_at}
+-- `words::u16_at` meets its contract: the library's bytes are the word's. Assumes nothing.
+use native.Mathlib.Omega.{arith}
+use Rattle.words.specs.Words.{word_at, u16_at}
 use Rattle.words.proofs.u16_at.Goals as goal
 
 pub returns : goal.returns
-unfolding u16_at
-returns c = c.pair_at.ensures.0
+unfolding u16_at word_at
+returns c = let e = c.from_le_bytes.ensures in omega arith

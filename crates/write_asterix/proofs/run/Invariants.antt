@@ -1,9 +1,6 @@
--- `write_asterix::run` ends: each turn takes a record, of so many at most.
-use Rattle.std.proofs.Common.{◌-◌, ◌≤◌}
+-- In `write_asterix::run` no more records are passed over than were gone through.
+use Rattle.std.proofs.Common.{◌≤◌}
 use Rattle.write_asterix.proofs.run.Given as goal
 
 abbrev pub invariant-loop-records : goal.invariant-loop-records
-invariant-loop-records g l = (l.records ≤ 72057594037927935) × (l.passed ≤ l.records)
-
-abbrev pub decreases-loop-records : goal.decreases-loop-records
-decreases-loop-records g l = 72057594037927935 - l.records
+invariant-loop-records g l = l.passed ≤ l.records

@@ -9,24 +9,24 @@ tried-requires c = record {
   scratch = c.requires.scratch;
 }
 
-pub returns-then-found : goal.returns-then-found
+pub returns-in_default : goal.returns-in_default
 unfolding step
-returns-then-found c = record {
-  stepped_value = rw (
-    ← c.damped-m.ensures,
-    ← c.descent-found.ensures,
-    c.if-found.true,
-    ← c.candidate-candidate.ensures,
-    c.tried.ensures.stepped_value,
-  );
-  place_value = c.tried.ensures.place_value;
-  scratch_2 = c.tried.ensures.scratch_2;
+returns-in_default c = record {
+  stepped_value = rw (← c.damped-m.ensures, ← c.descent.ensures, c.in_default.is);
+  place_value = c.requires.k_bound.1;
+  scratch_2 = c.requires.scratch;
 }
 
 pub returns : goal.returns
 unfolding step
 returns c = record {
-  stepped_value = rw (← c.damped-m.ensures, ← c.descent-found.ensures, c.if-found.false);
-  place_value = c.requires.k_bound.1;
-  scratch_2 = c.requires.scratch;
+  stepped_value = rw (
+    ← c.damped-m.ensures,
+    ← c.descent.ensures,
+    c.in-Some.is,
+    ← c.candidate-candidate.ensures,
+    c.tried.ensures.stepped_value,
+  );
+  place_value = c.tried.ensures.place_value;
+  scratch_2 = c.tried.ensures.scratch_2;
 }

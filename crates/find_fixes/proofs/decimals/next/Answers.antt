@@ -14,7 +14,7 @@ returns-then-byte-lt48 c = rw (
   ne_eqb c.args.byte 46 c.if-byte-eq46.false,
   lt-ltb c.args.byte
       48 c.if-byte-lt48.true,
-) c.spoilt.ensures
+)
 
 pub returns-then-byte-gt57 : goal.returns-then-byte-gt57
 unfolding next
@@ -26,7 +26,6 @@ returns-then-byte-gt57 c =
       lt-ltb 57 c.args.byte
           c.if-byte-gt57.true,
     )
-    c.spoilt-then-byte-gt57.ensures
 
 pub returns-then-d-ge-MOST : goal.returns-then-d-ge-MOST
 unfolding next
@@ -37,7 +36,6 @@ returns-then-d-ge-MOST c =
       le-ltb 57 c.args.byte c.if-byte-gt57.false,
       le-leb most c.args.d.whole c.if-d-ge-MOST.true,
     )
-    c.spoilt-then-d-ge-MOST.ensures
 
 pub returns-then-d-ge-MOST-2 : goal.returns-then-d-ge-MOST-2
 unfolding next
@@ -52,7 +50,6 @@ returns-then-d-ge-MOST-2 c =
       lt-leb most c.args.d.whole c.if-d-ge-MOST.false,
       le-leb most c.args.d.scale c.if-d-ge-MOST-2.true,
     )
-    c.spoilt-then-d-ge-MOST-2.ensures
 
 pub returns-then-d : goal.returns-then-d
 unfolding next

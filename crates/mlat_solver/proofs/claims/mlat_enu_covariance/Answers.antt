@@ -1,6 +1,5 @@
 -- `mlat_solver::claims::mlat_enu_covariance` meets its contract: the array has the nine entries of what `limits::enu_covariance` gives. Assumes
 -- nothing.
-use borrow.Author.Rules.{rules}
 use mathlib.Core.Path.{ap, ap₂, ◌∙◌}
 use Rattle.limits.specs.Local.{enu_covariance}
 use Rattle.mlat_solver.specs.Lent.{nine_of}

@@ -5,9 +5,11 @@ use mathlib.Core.Path.{sym, ◌∙◌}
 use Rattle.mlat_solver.proofs.Written.{three, unread}
 use Rattle.mlat_solver.proofs.displays.mlat_read_asterix.Goals as goal
 
-pub returns-in-Three : goal.returns-in-Three
-returns-in-Three c =
-    let told = c.struct_told-1.given in let both = three _ _ _ (sym c.read_asterix-read.ensures ∙ c.in-Three.is) told.0.1 told.1.0.1 told.1.1.0.1 in record { answer = both.0; multiples = both.1 }
+pub returns-in-Ok : goal.returns-in-Ok
+returns-in-Ok c =
+    let both = three _ _ _ (sym c.in-Ok.ensures) (search rules) (search rules) (search rules) in
+    record { answer = both.0; multiples = both.1 }
 
-pub returns-in-Refused : goal.returns-in-Refused
-returns-in-Refused c = let both = unread _ _ _ (sym c.read_asterix-read.ensures ∙ c.in-Refused.is) in record { answer = both.0; multiples = both.1 }
+pub returns-in-Err : goal.returns-in-Err
+returns-in-Err c =
+    let both = unread _ _ _ (sym c.in-Err.ensures) in record { answer = c.number.ensures ∙ both.0; multiples = both.1 }

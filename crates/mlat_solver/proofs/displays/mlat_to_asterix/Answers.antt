@@ -2,13 +2,12 @@
 use mathlib.Core.Path.{ap, ◌∙◌}
 use Rattle.wire.specs.declared.Wire.{Wire}
 use Rattle.asterix.specs.Items.{to_answer, to_output}
-use borrow.Author.Rules.{rules}
 use Rattle.mlat_solver.proofs.displays.mlat_to_asterix.Goals as goal
 
 pub returns : goal.returns
 returns c =
     let made = c.whole.ensures in
     let out = c.args.out.now in record {
-      answer = c.to_asterix.ensures.answer ∙ ap (λ (w : Wire). to_answer w out) made;
+      answer = c.answer.ensures ∙ c.to_asterix.ensures.answer ∙ ap (λ (w : Wire). to_answer w out) made;
       output = c.to_asterix.ensures.output ∙ ap (λ (w : Wire). to_output w out) made;
     }

@@ -1,7 +1,6 @@
 -- `mlat_solver::geodesy::mlat_enu_basis` meets its contract: the array has the nine entries of what `geo::enu_basis` gives, and they are bounded as
 -- promised (`basis`). Assumes nothing.
 use mathlib.Core.Path.{ap, ◌∙◌}
-use borrow.Author.Rules.{rules}
 use Rattle.mlat_solver.specs.Lent.{nine_of}
 use Rattle.mlat_solver.proofs.Display.{basis}
 use Rattle.mlat_solver.proofs.geodesy.mlat_enu_basis.Goals as goal

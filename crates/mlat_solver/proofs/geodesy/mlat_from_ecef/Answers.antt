@@ -1,6 +1,5 @@
 -- `mlat_solver::geodesy::mlat_from_ecef` meets its contract: the array has the fields of what `geo::from_ecef` gives. Assumes nothing.
 use mathlib.Core.Path.{ap}
-use borrow.Author.Rules.{rules}
 use Rattle.mlat_solver.specs.Lent.{three_of}
 use Rattle.mlat_solver.proofs.geodesy.mlat_from_ecef.Goals as goal
 

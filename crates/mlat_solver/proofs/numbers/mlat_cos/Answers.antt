@@ -1,5 +1,4 @@
 -- `mlat_solver::numbers::mlat_cos` meets its contract: it is libm's cosine, which is bounded as promised (`cosine`). Assumes nothing.
-use borrow.Author.Rules.{rules}
 use Rattle.mlat_solver.proofs.Display.{cosine}
 use Rattle.mlat_solver.proofs.numbers.mlat_cos.Goals as goal
 

@@ -1,5 +1,4 @@
 -- `mlat_solver::numbers::mlat_round` meets its contract: it is binary64's rounding, which means what is promised (`is-rounded`). Assumes nothing.
-use borrow.Author.Rules.{rules}
 use Rattle.mlat_solver.proofs.Meaning.{is-rounded}
 use Rattle.mlat_solver.proofs.numbers.mlat_round.Goals as goal
 

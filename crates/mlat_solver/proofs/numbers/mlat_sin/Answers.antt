@@ -1,5 +1,4 @@
 -- `mlat_solver::numbers::mlat_sin` meets its contract: it is libm's sine, which is bounded as promised (`sine`). Assumes nothing.
-use borrow.Author.Rules.{rules}
 use Rattle.mlat_solver.proofs.Display.{sine}
 use Rattle.mlat_solver.proofs.numbers.mlat_sin.Goals as goal
 

@@ -1,6 +1,5 @@
 -- `mlat_solver::numbers::mlat_sincos` meets its contract: `sincos_into` writes the two in turn, and both are bounded as promised (`pair`).
 -- Assumes nothing.
-use borrow.Author.Rules.{rules}
 use Rattle.mlat_solver.proofs.Display.{pair}
 use Rattle.mlat_solver.proofs.numbers.mlat_sincos.Goals as goal
 

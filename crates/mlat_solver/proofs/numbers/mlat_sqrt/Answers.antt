@@ -1,5 +1,4 @@
 -- `mlat_solver::numbers::mlat_sqrt` meets its contract: it is the root of binary64, which means what is promised (`is-root`). Assumes nothing.
-use borrow.Author.Rules.{rules}
 use Rattle.mlat_solver.proofs.Meaning.{is-root}
 use Rattle.mlat_solver.proofs.numbers.mlat_sqrt.Goals as goal
 

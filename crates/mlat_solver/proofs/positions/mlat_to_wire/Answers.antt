@@ -5,9 +5,11 @@ use mathlib.Core.Path.{sym, ◌∙◌}
 use Rattle.mlat_solver.proofs.Written.{whole, unwritten}
 use Rattle.mlat_solver.proofs.positions.mlat_to_wire.Goals as goal
 
-pub returns-in-Whole : goal.returns-in-Whole
-returns-in-Whole c =
-    let told = c.struct_told-1.given in let both = whole _ _ _ (sym c.to_wire-written.ensures ∙ c.in-Whole.is) told.0.1 told.1.0.1 told.1.1.0.1 in record { answer = both.0; numbers = both.1 }
+pub returns-in-Ok : goal.returns-in-Ok
+returns-in-Ok c =
+    let both = whole _ _ _ (sym c.in-Ok.ensures) (search rules) (search rules) (search rules) in
+    record { answer = both.0; numbers = both.1 }
 
-pub returns-in-Refused : goal.returns-in-Refused
-returns-in-Refused c = let both = unwritten _ _ _ (sym c.to_wire-written.ensures ∙ c.in-Refused.is) in record { answer = both.0; numbers = both.1 }
+pub returns-in-Err : goal.returns-in-Err
+returns-in-Err c =
+    let both = unwritten _ _ _ (sym c.in-Err.ensures) in record { answer = c.number.ensures ∙ both.0; numbers = both.1 }

@@ -1,5 +1,4 @@
 -- `mlat_solver::records::content_of` meets its contract, field by field. Assumes nothing.
-use borrow.Author.Rules.{rules}
 use mir.Syntax.{w64}
 use mir.ValLaws.{to_z-of_z}
 use Rattle.mlat_solver.specs.Records.{content_of}

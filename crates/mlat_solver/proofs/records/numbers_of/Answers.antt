@@ -1,5 +1,4 @@
 -- `mlat_solver::records::numbers_of` meets its contract: the eighteen numbers in their order. Assumes nothing.
-use borrow.Author.Rules.{rules}
 use Rattle.mlat_solver.specs.Records.{numbers_of}
 use Rattle.mlat_solver.proofs.records.numbers_of.Goals as goal
 

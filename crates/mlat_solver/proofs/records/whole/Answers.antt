@@ -1,5 +1,4 @@
 -- `mlat_solver::records::whole` meets its contract. Each return is a case of the definition. Assumes nothing.
-use borrow.Author.Rules.{rules}
 use borrow.Author.Tests.{eq-eqb, ne_eqb, le-leb, lt-leb}
 use Rattle.mlat_solver.specs.Records.{whole}
 use Rattle.mlat_solver.proofs.records.whole.Goals as goal

@@ -1,6 +1,6 @@
 -- `reader::fields::content_at` meets its contract: a refusal shows three numbers, a fix all fields of the table (`content-fields`). Assumes nothing.
 use native.Mathlib.Omega.{arith}
-use mathlib.Core.Path.{sym, ◌∙◌}
+use mathlib.Core.Path.{refl, sym, ◌∙◌}
 use Rattle.reader.proofs.Tests.{metres-finite, fix-meets}
 use Rattle.reader.proofs.Assembled.{content-fields, content-fixed, content-refused}
 use Rattle.reader.proofs.fields.content_at.Goals as goal
@@ -22,7 +22,7 @@ fix_at-fix-requires c =
 pub returns : goal.returns
 returns c =
     let s = c.args.s.now in
-    content-fields s c.u32_at-detail.ensures c.u32_at-n.ensures c.wide.ensures
+    content-fields s c.u32_at-detail.ensures c.u32_at-n.ensures refl
     c.number_at.ensures
     c.altitude_of-altitude.ensures
     c.fix_at-fix.ensures

@@ -1,20 +1,18 @@
--- `reader::rules::finite` meets its contract. After i turns the answer is that of the first i numbers. Assumes nothing.
+-- `reader::rules::finite` meets its contract. The numbers are tested one by one (`finite-each`). Assumes nothing.
+use Rattle.std.proofs.Common.{rules, ◌∙◌, refl, arith, ◌+◌, ◌*◌}
+use borrow.Author.Tests.{tests}
+use Rattle.std.proofs.lemmas.Iterator.{YieldsList-from_range}
+use Rattle.std.proofs.lemmas.Iterator.Search.{all_from_yields_List}
+use Rattle.binary64.specs.Steps.{is_finite}
 use Rattle.words.specs.Words.{f64_at}
-use mathlib.Core.Path.{◌≡◌, refl}
-use native.Mathlib.Omega.{arith}
-use native.Mathlib.Numerals.{add-one}
-use Rattle.reader.specs.Tests.{finite}
+use Rattle.reader.proofs.Tests.{finite-each}
 use Rattle.reader.proofs.rules.finite.Goals as goal
 
-pub loop-i-init : goal.loop-i-init
-unfolding finite
-loop-i-init c = (omega arith, refl)
-
-pub loop-i-preserved : goal.loop-i-preserved
-unfolding finite f64_at
-loop-i-preserved c =
-    let inv = c.loop-i.invariant.1 in
-    (omega arith, rw (add-one, ← inv, ← c.u64_at.ensures, ← c.finite_bits.ensures) c.both-good.ensures)
-
 pub returns : goal.returns
-returns c = let e : c.loop-i.i ≡ c.args.count = omega arith in rw e at c.loop-i.invariant.1
+unfolding f64_at
+returns c =
+    let s = c.args.s.now in
+    let k = c.args.k in
+    all_from_yields_List (λ i. is_finite (f64_at s (k + 8 * i))) _ _ c.all.result c.all.ensures.ran
+    (YieldsList-from_range 0 c.args.count c.args.count refl (omega arith)) (λ x b q k. search (rules, tests))
+    ∙ finite-each s k c.args.count

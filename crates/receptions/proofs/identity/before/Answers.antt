@@ -1,15 +1,9 @@
--- `receptions::identity::before` meets its contract: by the cases of the comparison. Assumes nothing.
-use Rattle.receptions.specs.Identities.{before}
+-- `receptions::identity::before` meets its contract: the derived order is the documents' (`derived-before`). Assumes nothing.
+use Rattle.std.proofs.Common.{◌∙◌}
+use Rattle.std.proofs.Common.{ap}
+use Rattle.std.specs.Ordering.{is_lt}
+use Rattle.receptions.proofs.Derived.{derived-before}
 use Rattle.receptions.proofs.identity.before.Goals as goal
 
-pub returns-in-Less : goal.returns-in-Less
-unfolding before
-returns-in-Less c = rw (← c.compare-found.ensures, c.in-Less.is)
-
-pub returns-in-Equal : goal.returns-in-Equal
-unfolding before
-returns-in-Equal c = rw (← c.compare-found.ensures, c.in-Equal.is)
-
-pub returns-in-Greater : goal.returns-in-Greater
-unfolding before
-returns-in-Greater c = rw (← c.compare-found.ensures, c.in-Greater.is)
+pub returns : goal.returns
+returns c = c.is_lt.ensures ∙ ap is_lt c.cmp.ensures ∙ derived-before c.args.a c.args.b

@@ -1,11 +1,12 @@
 -- `rounds::outliers::looked` meets its contract. After i turns it holds both choices among the first i. Assumes nothing.
 use Rattle.std.proofs.Common.{◌≡◌, refl, arith}
 use Rattle.dense.specs.Entries.{nth}
-use Rattle.sets.specs.Mask.{has}
+use Rattle.sets.specs.Choice.{choose}
 use Rattle.rounds.proofs.outliers.looked.Goals as goal
 
 pub loop-i-init : goal.loop-i-init
-loop-i-init c = let s = c.args in (omega arith, c.none_yet-seen.ensures (has s.kept) (has s.included) (nth s.z.now))
+unfolding choose
+loop-i-init c = (omega arith, refl)
 
 pub loop-i-preserved : goal.loop-i-preserved
 loop-i-preserved c =

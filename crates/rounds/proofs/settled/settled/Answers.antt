@@ -5,7 +5,7 @@ use Rattle.sets.specs.Sets.{count}
 use Rattle.sets.specs.Mask.{has}
 use Rattle.problem.specs.declared.Altitude.{Altitude}
 use Rattle.limits.specs.Limits.{dof}
-use Rattle.rounds.specs.Held.{as_finished}
+use Rattle.rounds.specs.Held.{as_result}
 use Rattle.rounds.specs.Solve.{has_altitude}
 use Rattle.rounds.proofs.Late.{late-inconsistent, late-finish}
 use Rattle.rounds.proofs.settled.settled.Goals as goal
@@ -18,7 +18,7 @@ pub returns-then-fit-published_chi2_limit : goal.returns-then-fit-published_chi2
 returns-then-fit-published_chi2_limit c R n m a norm =
     let degrees = c.dof-dof in
     let limit = c.published_chi2_limit in
-    c.withheld.ensures ∙ ap as_finished (late-inconsistent R c.args.reference_ps c.args.included m n c.args.fit c.args.norm norm
+    ap as_result (late-inconsistent R c.args.reference_ps c.args.included m n c.args.fit c.args.norm norm
     degrees.result (degrees.ensures ∙ ap (free c.args.included) a) limit.result limit.ensures c.if-fit-published_chi2_limit.true)
 
 pub returns : goal.returns
@@ -26,5 +26,5 @@ returns c R n m a norm =
     let degrees = c.dof-dof in
     let limit = c.published_chi2_limit in
     (rw (to_z-of_z w64 c.args.reference_ps c.ranges.reference_ps) at c.finish.ensures)
-    ∙ ap as_finished (late-finish R c.args.reference_ps c.args.included m n c.args.fit c.args.norm norm
+    ∙ ap as_result (late-finish R c.args.reference_ps c.args.included m n c.args.fit c.args.norm norm
     degrees.result (degrees.ensures ∙ ap (free c.args.included) a) limit.result limit.ensures c.if-fit-published_chi2_limit.false)

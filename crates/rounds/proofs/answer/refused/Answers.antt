@@ -1,5 +1,0 @@
--- `rounds::answer::refused` meets its contract: beside the refusal stands no fix. Assumes nothing.
-use Rattle.rounds.proofs.answer.refused.Goals as goal
-
-pub returns : goal.returns
-returns c = rw c.nothing.ensures

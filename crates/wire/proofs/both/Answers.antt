@@ -1,8 +1,0 @@
--- `wire::both` meets its contract: the first test decides which arm is left. Assumes nothing.
-use Rattle.wire.proofs.both.Goals as goal
-
-pub returns-then-a : goal.returns-then-a
-returns-then-a c = rw c.if-a.true
-
-pub returns : goal.returns
-returns c = rw c.if-a.false
