@@ -81,12 +81,6 @@ pub fn read(input: &mut impl Read, bytes: &mut [u8], n: usize) -> usize
     host::read_full(input, &mut bytes[..n])
 }
 
-// The next N bytes, which begin a case; none where they do not all come. As of `read`, nothing is promised of them.
-pub fn start<const N: usize>(input: &mut impl Read) -> Option<[u8; N]> {
-    let mut head = [0u8; N];
-    (read(input, &mut head, N) == N).then_some(head)
-}
-
 // Falsifies the answer of a case: changes byte `place` of what is to be left, or, past its end, gives another number.
 pub fn falsified(number: u8, after: &mut [u8], place: usize) -> u8
     ensures { IsFalsified number result place after.old after.new }

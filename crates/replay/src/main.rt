@@ -152,7 +152,10 @@ fn call_both(inputs: Inputs<'_>, recorded: &[u8; 176], k: u64) -> Both {
 
 // The next input, which is input k. A record that ends early is made one that no call gives.
 fn next(input: &mut impl Read, k: u64) -> Option<Both> {
-    let head: [u8; 8] = cases::start(input)?;
+    let mut head = [0u8; 8];
+    if cases::read(input, &mut head, 8) < 8 {
+        return None;
+    }
     let mut receptions = [0u8; 16384];
     let mut clock = [0u8; 16384];
     let mut altitude = [0u8; 256];

@@ -19,7 +19,10 @@ fn moved(back: u8, bytes: &[u8], out: &mut [u8]) -> u32 {
 
 // The next move, which is move k.
 fn next(input: &mut impl Read, k: u64) -> Option<Compared> {
-    let head: [u8; 8] = cases::start(input)?;
+    let mut head = [0u8; 8];
+    if cases::read(input, &mut head, 8) < 8 {
+        return None;
+    }
     let mut bytes = [0u8; 1024];
     let mut out = [0xa5u8; 1024];
     let mut after = [0u8; 1024];

@@ -69,7 +69,10 @@ fn read(input: &mut impl Read, number: u8, length: usize, k: u64) -> Compared {
 
 // The next call, which is call k.
 fn next(input: &mut impl Read, k: u64) -> Option<Compared> {
-    let head: [u8; 8] = cases::start(input)?;
+    let mut head = [0u8; 8];
+    if cases::read(input, &mut head, 8) < 8 {
+        return None;
+    }
     let length = head[2] as usize;
     Some(match head[0] {
         0 => written(input, true, head[1], length, k),

@@ -51,7 +51,11 @@ fn tried(record: &[u8; 32]) -> Compared {
 }
 
 fn next(input: &mut impl Read) -> Option<Compared> {
-    cases::start(input).map(|record| tried(&record))
+    let mut record = [0u8; 32];
+    if cases::read(input, &mut record, 32) < 32 {
+        return None;
+    }
+    Some(tried(&record))
 }
 
 fn main(rt: HostRuntime) -> io::Result<()> {

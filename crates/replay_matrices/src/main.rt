@@ -80,7 +80,10 @@ fn on_parts(
 
 // The next call, which is call k.
 fn next(input: &mut impl Read, k: u64) -> Option<Compared> {
-    let head: [u8; 16] = cases::start(input)?;
+    let mut head = [0u8; 16];
+    if cases::read(input, &mut head, 16) < 16 {
+        return None;
+    }
     let f = words::u16_at(&head, 4) as usize;
     let first = numbers(&taken(input, f));
     if f > 1024 {

@@ -53,7 +53,10 @@ fn alike(answer: Answer, places: &[u64], number: u8, after: &[u8]) -> bool {
 
 // The next search, which is search k.
 fn next(input: &mut impl Read, k: u64) -> Option<Compared> {
-    let head: [u8; 8] = cases::start(input)?;
+    let mut head = [0u8; 8];
+    if cases::read(input, &mut head, 8) < 8 {
+        return None;
+    }
     let mut file = [0u8; 16384];
     let mut query = [0u8; 32];
     let mut places = [FOUND; ENTRIES];

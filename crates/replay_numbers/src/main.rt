@@ -118,7 +118,11 @@ fn tried(call: &[u8; 176]) -> Compared {
 }
 
 fn next(input: &mut impl Read) -> Option<Compared> {
-    cases::start(input).map(|call| tried(&call))
+    let mut call = [0u8; 176];
+    if cases::read(input, &mut call, 176) < 176 {
+        return None;
+    }
+    Some(tried(&call))
 }
 
 fn print(rt: &impl Print, tally: Tally) -> io::Result<()> {

@@ -19,7 +19,10 @@ fn alike(answer: u32, counts: &[u64; 7], recorded: &[u8; 64]) -> bool {
 
 // The next recorded call, which is call k. To falsify it, a byte of what it is to answer or to leave is changed.
 fn next(input: &mut impl Read, k: u64) -> Option<Compared> {
-    let mut recorded: [u8; 64] = cases::start(input)?;
+    let mut recorded = [0u8; 64];
+    if cases::read(input, &mut recorded, 64) < 64 {
+        return None;
+    }
     let mut counts = [FOUND; 7];
     let receptions = words::u32_at(&recorded, 0);
     let answer = mlat_solver::mlat_clash_patterns(receptions, &mut counts);

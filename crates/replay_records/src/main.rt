@@ -106,7 +106,10 @@ fn written(input: &mut impl Read, number: u8, length: usize, k: u64) -> Compared
 
 // The next call, which is call k.
 fn next(input: &mut impl Read, k: u64) -> Option<Compared> {
-    let head: [u8; 8] = cases::start(input)?;
+    let mut head = [0u8; 8];
+    if cases::read(input, &mut head, 8) < 8 {
+        return None;
+    }
     let length = words::u16_at(&head, 4) as usize;
     Some(match head[0] {
         0 => placed(input, head[1], length, head[2], k),

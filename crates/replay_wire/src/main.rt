@@ -63,7 +63,10 @@ fn placed(input: &mut impl Read, number: u8, k: u64) -> Compared {
 
 // The next call, which is call k.
 fn next(input: &mut impl Read, k: u64) -> Option<Compared> {
-    let head: [u8; 8] = cases::start(input)?;
+    let mut head = [0u8; 8];
+    if cases::read(input, &mut head, 8) < 8 {
+        return None;
+    }
     Some(if head[0] == 0 {
         written(input, head[1], words::u16_at(&head, 4) as usize, k)
     } else {

@@ -107,7 +107,10 @@ fn falsified(header: &[u8; 64], k: u64) -> [u8; 64] {
 
 // The next case, which is case k: its header, and its files.
 fn next(input: &mut impl Read, k: u64) -> Option<Compared> {
-    let header: [u8; 64] = cases::start(input)?;
+    let mut header = [0u8; 64];
+    if cases::read(input, &mut header, 64) < 64 {
+        return None;
+    }
     let mut receptions = [0u8; 8200];
     let mut clock = [0u8; 8200];
     let mut altitude = [0u8; 8200];
