@@ -27,6 +27,7 @@ ghost use Rattle.best.specs.Held.{EachPlaced, fits_of, array_of, as_best_at, poi
 
 use damped::{Fit, Placed};
 use geo::Geodetic;
+use linalg::Cholesky;
 use norm::norm;
 use problem::Altitude;
 
@@ -249,10 +250,13 @@ pub fn best_fit(
         altitude) (best_fit clock_m2.now n noise_m2.now index.now
         sites.now z.now k altitude (points_to at.now count)) }
 {
-    let mut l = [0.0; 1024];
-    if !whitening::whitener(clock_m2, n, noise_m2, index, k, &mut l) {
+    let mut factor = Cholesky {
+        n: k,
+        l: [0.0; 1024],
+    };
+    if !whitening::whitener(clock_m2, n, noise_m2, index, factor.n, &mut factor.l) {
         return Err(Unfit::Singular);
     }
-    let fits = fits(sites, z, k, &l, altitude, at, count);
-    judged(sites, z, k, &l, altitude, &fits[..count])
+    let fits = fits(sites, z, factor.n, &factor.l, altitude, at, count);
+    judged(sites, z, factor.n, &factor.l, altitude, &fits[..count])
 }

@@ -15,7 +15,6 @@ mod decimals;
 mod lines;
 
 ghost use Rattle.std.specs.Prelude.{◌≡◌, ◌+◌, ◌%◌, ◌^◌, ◌≤◌, cond, List, [], length, if◌then◌else◌, ◌==◌, nat_eq, Float};
-ghost use Rattle.reader.specs.Read.{record_at};
 ghost use Rattle.near.specs.Near.{nearest_answer};
 ghost use Rattle.near.specs.Parts.{nearest_in, joined};
 ghost use Rattle.text.specs.Text.{text_of};
@@ -141,16 +140,6 @@ fn with_block(block: &[u8], base: u64, point: Vec3, best: Best) -> Best
 
 // ---- those within the radius
 
-// The record at a place of a block; none of it where the block has none.
-fn record_of(block: &[u8], k: u64) -> &[u8]
-    ensures { result.now ≡ record_at block.now k }
-{
-    match reader::record_at(block, k) {
-        Ok(record) => record,
-        Err(_) => &block[..0],
-    }
-}
-
 // What is printed of place k of a block whose first record is at place `base`: the line of the fix there, by its place
 // in the file, if it is within the radius; else nothing. `near` finds it in the record by itself. Whatever is before
 // the block, it is what is printed of place base + k of all bytes so far.
@@ -160,7 +149,7 @@ fn line_at(block: &[u8], base: u64, k: u64, point: Vec3, radius: f64) -> Text
     ensures whole { blocks.LineInFile block.now point radius base k (text_of result) }
     ensures room { (length result.bytes ≡ 512) × (result.n ≤ 512) }
 {
-    let fix = near::nearest_in(record_of(block, k), point);
+    let fix = near::nearest_in(reader::record_at(block, k), point);
     let none = text::empty();
     if !fix.found {
         return none;

@@ -7,7 +7,7 @@
 // and 4,355 for every torn one.
 #![tactic(auto)]
 
-ghost use Rattle.std.specs.Prelude.{◌≤◌, cond, ◌≡◌, Some, IfOk, IfSome};
+ghost use Rattle.std.specs.Prelude.{◌≤◌, cond, ◌≡◌, Ok, Some, None, IfOk, IfSome};
 ghost use Rattle.io.specs.Counts.{IsPrefixLen};
 ghost use Rattle.entry.specs.Cut.{taken, present_bits};
 
@@ -70,6 +70,13 @@ fn closed<R: Eprint + Alloc>(
     }
 }
 
+// What is taken of a file that is absent: nothing.
+fn absent() -> Result<Option<usize>, Unreadable>
+    ensures { result ≡ Ok None }
+{
+    Ok(None)
+}
+
 // Whether the folder can be opened. Where it cannot, that is said.
 fn there<R: Files + Eprint + Alloc>(rt: &R, folder: &[u8]) -> bool {
     match host::open_read(rt, joined(folder, b".").as_slice()) {
@@ -91,7 +98,7 @@ fn read_at<R: Files + Eprint + Alloc>(
     ensures { IfOk result (λ part. IfSome part (λ n. IsPrefixLen n buf.new)) }
 {
     let Some(mut file) = opened(rt, path)? else {
-        return Ok(None);
+        return absent();
     };
     let n = host::read_full(&mut file, buf);
     closed(rt, file, path, n)
@@ -151,7 +158,7 @@ fn receptions_at<R: Files + Eprint + Alloc>(
     ensures { IfOk result (λ part. IfSome part (λ n. IsPrefixLen n buf.new)) }
 {
     let Some(mut file) = opened(rt, path)? else {
-        return Ok(None);
+        return absent();
     };
     let n = host::read_full(&mut file, buf);
     let whole = rest_is_whole(&mut file);

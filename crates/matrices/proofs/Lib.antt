@@ -1,3 +1,4 @@
--- The laws that the proofs share: sizes; and what the calls come to.
+-- The laws that the proofs share: sizes, and a copy; and what the calls come to.
 pub mod Sizes
+pub mod Copies
 pub mod Meaning

@@ -60,6 +60,16 @@ pub fn sandwich(n: usize, a: &[f64], inner: &[f64], out: &mut [f64]) -> Result<(
     Err(Refusal::WrongSize)
 }
 
+// q, into out, entry by entry: the library's copy would ask a caller's program for `memmove`, which nothing else does.
+fn copy(q: &[f64], out: &mut [f64])
+    requires { length out.old ≡ length q.now }
+    ensures { out.new ≡ q.now }
+{
+    for k in 0..q.len() {
+        out[k] = q[k];
+    }
+}
+
 // R with L R = Q for the factor l and the n rows q of `width` numbers, into out.
 pub fn forward_rows(
     n: usize,
@@ -74,7 +84,7 @@ pub fn forward_rows(
         ≡ calls.forward_rows_output n width l.now q.now out.old }
 {
     if square_and_rows(n, width, l.len(), q.len(), out.len()) {
-        out.copy_from_slice(q);
+        copy(q, &mut *out);
         dense::forward_rows(l, n, width, &mut *out);
         return Ok(());
     }

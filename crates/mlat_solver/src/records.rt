@@ -15,7 +15,7 @@ pub fn mlat_record_at(file: &[u8], place: u64, at: &mut u64) -> u32
     ensures answer { result ≡ place_refusal (length file.now) place }
     ensures offset { at.new ≡ held.placed_at (length file.now) place at.old }
 {
-    match reader::record_at(file, place) {
+    match reader::find_record(file, place) {
         Ok(_) => {
             *at = 176 * place;
             0

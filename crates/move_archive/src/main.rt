@@ -9,8 +9,8 @@
 // and the bytes before and after are said there.
 #![tactic(auto)]
 
-ghost use Rattle.std.specs.Prelude.{◌≡◌, ◌≤◌};
-ghost use Rattle.move_archive.specs.Moved.{new_of, old_of};
+ghost use Rattle.std.specs.Prelude.{◌≡◌, ◌≤◌, IfOk, IfErr, IfSome};
+ghost use Rattle.move_archive.specs.Moved.{new_of, old_of, place_of};
 
 use refusals::Refusal;
 use std::convert::AsSlice;
@@ -63,6 +63,7 @@ fn next<R: Print + Eprint + Alloc, T: AsSlice<u8> + Copy, F: Fn(&[u8]) -> (u32, 
 ) -> Result<bool, Stop>
     requires within { from ≤ 176 }
     requires moves { F.IsAlwaysCallable moved.now }
+    ensures { IfErr result (λ stop. place_of stop ≤ place) }
 {
     let mut bytes = [0u8; 176];
     let n = host::read_full(file, &mut bytes[..from]);
@@ -89,6 +90,8 @@ fn run<R: Print + Eprint + Alloc, T: AsSlice<u8> + Copy, F: Fn(&[u8]) -> (u32, T
 ) -> Result<u64, Stop>
     requires within { from ≤ 176 }
     requires moves { F.IsAlwaysCallable moved.now }
+    ensures records { IfOk result (λ records. records ≤ 72057594037927935) }
+    ensures place { IfErr result (λ stop. place_of stop ≤ 72057594037927935) }
 {
     for place in 0..MOST {
         if !next(rt, file, from, moved, place, write)? {
@@ -134,6 +137,7 @@ fn pass<R: Files + Print + Eprint + Alloc, T: AsSlice<u8> + Copy, F: Fn(&[u8]) -
 ) -> Option<u64>
     requires within { from ≤ 176 }
     requires moves { F.IsAlwaysCallable moved.now }
+    ensures { IfSome result (λ records. records ≤ 72057594037927935) }
 {
     let mut file = match host::open_read(rt, path) {
         Ok(file) => file,
@@ -163,15 +167,15 @@ fn move_all<R: Files + Print + Eprint + Alloc, T: AsSlice<u8> + Copy, F: Fn(&[u8
     to: usize,
     moved: F,
 )
-    requires within { from ≤ 176 }
+    requires within { (from ≤ 176) × (to ≤ 176) }
     requires moves { F.IsAlwaysCallable moved }
 {
     if pass(rt, path, from, &moved, false).is_none() {
         return;
     }
     if let Some(records) = pass(rt, path, from, &moved, true) {
-        let before = records.wrapping_mul(from as u64);
-        let after = records.wrapping_mul(to as u64);
+        let before = records * from as u64;
+        let after = records * to as u64;
         let _ = eprintln!(rt;
             "move_archive: {records} records, {before} bytes before, {after} after"
         );

@@ -7,7 +7,7 @@ mod query;
 ghost use Rattle.std.specs.Prelude.{ℕ, ◌≡◌, ◌+◌, ◌*◌, ◌≤◌, length};
 ghost use Rattle.std.specs.Result.{result_unwrap_or};
 ghost use Rattle.refusals.specs.Refusals.{answer_of};
-ghost use Rattle.reader.specs.Read.{place_refusal, record_at};
+ghost use Rattle.reader.specs.Read.{place_refusal};
 ghost use Rattle.sets.specs.Sets.{count, members_to};
 ghost use Rattle.near.specs.Near as near;
 ghost use Rattle.near.specs.Parts as parts;
@@ -33,7 +33,7 @@ pub struct Held {
 fn readable(file: &[u8], k: usize) -> bool
     ensures { result ≡ near.readable file.now k }
 {
-    match reader::record_at(file, k as u64) {
+    match reader::find_record(file, k as u64) {
         Ok(record) => reader::check(record).is_ok(),
         Err(_) => false,
     }
@@ -98,20 +98,12 @@ fn is_near(bytes: &[u8], point: Vec3, radius: f64) -> bool
     is_fix(bytes) && distance(bytes, point) <= radius
 }
 
-// The record at a place that the file has.
-fn record_of(file: &[u8], k: usize) -> &[u8]
-    requires { place_refusal (length file.now) k ≡ 0 }
-    ensures { result.now ≡ record_at file.now k }
-{
-    reader::record_at(file, k as u64).unwrap()
-}
-
 // Whether the record at a place is a fix within the radius.
 fn near_at(file: &[u8], k: usize, point: Vec3, radius: f64) -> bool
     requires { place_refusal (length file.now) k ≡ 0 }
     ensures { result ≡ near.within file.now point radius k }
 {
-    is_near(record_of(file, k), point, radius)
+    is_near(reader::record_at(file, k as u64), point, radius)
 }
 
 // The places of the fixes within the radius, ascending, into `places`. Gives how many.
@@ -177,7 +169,7 @@ fn nearest_to(file: &[u8], k: usize, point: Vec3, held: Held) -> Held
     requires { (place_refusal (length file.now) k ≡ 0) × (held ≡ near.held_to file.now point k) }
     ensures { result ≡ near.held_to file.now point (k + 1) }
 {
-    step(record_of(file, k), k, point, held)
+    step(reader::record_at(file, k as u64), k, point, held)
 }
 
 // None so far.

@@ -1,4 +1,4 @@
-// Fix records read back: document 02, item 1. `record_at` hands out the caller's own bytes of a file,
+// Fix records read back: document 02, item 1. `find_record` and `record_at` hand out the caller's own bytes of a file,
 // `read` takes a record apart, and `write` puts it together again.
 #![tactic(auto)]
 
@@ -19,7 +19,7 @@ pub use rules::check;
 const SIZE: usize = 176;
 
 // The caller's own 176 bytes of the record at a place, from 0: 16 where the file is torn, 17 where it ends before.
-pub fn record_at(file: &[u8], place: u64) -> Result<&[u8], Refusal>
+pub fn find_record(file: &[u8], place: u64) -> Result<&[u8], Refusal>
     ensures answer { answer_of result ≡ reads.place_refusal (length file.now) place }
     ensures bytes { IfOk result (λ r. r.now ≡ reads.record_at file.now place) }
 {
@@ -33,6 +33,16 @@ pub fn record_at(file: &[u8], place: u64) -> Result<&[u8], Refusal>
     let at = SIZE * place as usize;
     let end = at + SIZE;
     Ok(&file[at..end])
+}
+
+// The same; none of the bytes where it is refused.
+pub fn record_at(file: &[u8], place: u64) -> &[u8]
+    ensures { result.now ≡ reads.record_at file.now place }
+{
+    match find_record(file, place) {
+        Ok(record) => record,
+        Err(_) => &file[..0],
+    }
 }
 
 // A record taken apart: 16 where it is not 176 bytes long, 18 where it breaks a rule.

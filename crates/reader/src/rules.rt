@@ -12,12 +12,17 @@ const SIGN: u64 = 0x8000_0000_0000_0000;
 
 const INFINITY: u64 = 0x7ff0_0000_0000_0000;
 
-// Whether the bytes from k on are zero, so many of them.
+// Whether the bytes from k on are zero, so many of them. None is left out where one is not: a loop without a way out
+// takes many bytes at a time.
 pub fn zeros(s: &[u8], k: usize, count: usize) -> bool
     requires { k + count ≤ length s.now }
     ensures { result ≡ tests.zeros s.now k count }
 {
-    s[k..k + count].iter().all(|&b| b == 0)
+    let mut good = true;
+    for byte in &s[k..k + count] {
+        good = good & (*byte == 0);
+    }
+    good
 }
 
 // Whether the f64 with these bits is finite.

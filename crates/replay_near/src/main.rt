@@ -51,27 +51,33 @@ fn alike(answer: Answer, places: &[u64], number: u8, after: &[u8]) -> bool {
         && (0..places.len()).all(|i| holds(after, i + 1, places[i]))
 }
 
+// The case of this head, which is case k, compared. (A function of its own: after a return its arrays would be filled
+// twice.)
+fn tried(input: &mut impl Read, head: &[u8; 8], k: u64) -> Compared {
+    let mut file = [0u8; 16384];
+    let mut query = [0u8; 32];
+    let mut places = [FOUND; ENTRIES];
+    let mut after = [0u8; 1032];
+    let f = cases::read(input, &mut file, words::u16_at(head, 2) as usize);
+    let n = ENTRIES.min(words::u16_at(head, 4) as usize);
+    cases::read(input, &mut query, 32);
+    let a = cases::read(input, &mut after, 8 + 8 * n);
+    let answer = searched(head[0], &file[..f], &query, &mut places[..n]);
+    cases::twice(
+        head[1],
+        &mut after[..a],
+        (k % 24) as usize,
+        |number, after| alike(answer, &places[..n], number, after),
+    )
+}
+
 // The next search, which is search k.
 fn next(input: &mut impl Read, k: u64) -> Option<Compared> {
     let mut head = [0u8; 8];
     if cases::read(input, &mut head, 8) < 8 {
         return None;
     }
-    let mut file = [0u8; 16384];
-    let mut query = [0u8; 32];
-    let mut places = [FOUND; ENTRIES];
-    let mut after = [0u8; 1032];
-    let f = cases::read(input, &mut file, words::u16_at(&head, 2) as usize);
-    let n = ENTRIES.min(words::u16_at(&head, 4) as usize);
-    cases::read(input, &mut query, 32);
-    let a = cases::read(input, &mut after, 8 + 8 * n);
-    let answer = searched(head[0], &file[..f], &query, &mut places[..n]);
-    Some(cases::twice(
-        head[1],
-        &mut after[..a],
-        (k % 24) as usize,
-        |number, after| alike(answer, &places[..n], number, after),
-    ))
+    Some(tried(input, &head, k))
 }
 
 fn main(rt: HostRuntime) -> io::Result<()> {

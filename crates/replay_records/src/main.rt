@@ -27,7 +27,7 @@ fn placed(input: &mut impl Read, number: u8, length: usize, parts: u8, k: u64) -
     let n = cases::read(input, &mut after, if parts == 0 { 8 } else { 184 });
     let place = words::u64_at(&place, 0);
     let answer = mlat_solver::mlat_record_at(&file[..f], place, &mut at);
-    let part = reader::record_at(&file[..f], place).unwrap_or(&file[..0]);
+    let part = reader::record_at(&file[..f], place);
     cases::twice(
         number,
         &mut after[..n],

@@ -105,32 +105,38 @@ fn falsified(header: &[u8; 64], k: u64) -> [u8; 64] {
     other
 }
 
+// The case of this header, which is case k and whose files come next, compared. (A function of its own: after a return
+// its arrays would be filled twice.)
+fn tried(input: &mut impl Read, header: &[u8; 64], k: u64) -> Compared {
+    let mut receptions = [0u8; 8200];
+    let mut clock = [0u8; 8200];
+    let mut altitude = [0u8; 8200];
+    let mut reference = [0u8; 8200];
+    let a = cases::read(input, &mut receptions, length_of(words::u64_at(header, 0)));
+    let b = cases::read(input, &mut clock, length_of(words::u64_at(header, 8)));
+    let c = cases::read(input, &mut altitude, length_of(words::u64_at(header, 16)));
+    let d = cases::read(input, &mut reference, length_of(words::u64_at(header, 24)));
+    let got = answered(
+        &receptions[..a],
+        given(header),
+        &clock[..b],
+        &altitude[..c],
+        &reference[..d],
+    );
+    let other = falsified(header, k);
+    Compared {
+        same: expects(header, got),
+        same_falsified: expects(&other, got),
+    }
+}
+
 // The next case, which is case k: its header, and its files.
 fn next(input: &mut impl Read, k: u64) -> Option<Compared> {
     let mut header = [0u8; 64];
     if cases::read(input, &mut header, 64) < 64 {
         return None;
     }
-    let mut receptions = [0u8; 8200];
-    let mut clock = [0u8; 8200];
-    let mut altitude = [0u8; 8200];
-    let mut reference = [0u8; 8200];
-    let a = cases::read(input, &mut receptions, length_of(words::u64_at(&header, 0)));
-    let b = cases::read(input, &mut clock, length_of(words::u64_at(&header, 8)));
-    let c = cases::read(input, &mut altitude, length_of(words::u64_at(&header, 16)));
-    let d = cases::read(input, &mut reference, length_of(words::u64_at(&header, 24)));
-    let got = answered(
-        &receptions[..a],
-        given(&header),
-        &clock[..b],
-        &altitude[..c],
-        &reference[..d],
-    );
-    let other = falsified(&header, k);
-    Some(Compared {
-        same: expects(&header, got),
-        same_falsified: expects(&other, got),
-    })
+    Some(tried(input, &header, k))
 }
 
 fn main(rt: HostRuntime) -> io::Result<()> {

@@ -11,7 +11,7 @@ returns-then-not-fix c =
     let args = c.args in
     let p =
     no-fix args.block.now args.point args.radius args.base args.k c.nearest_in-fix.result
-    (c.nearest_in-fix.ensures ∙ ap (λ (s : List ℕ). nearest_in s args.point) c.record_of.ensures)
+    (c.nearest_in-fix.ensures ∙ ap (λ (s : List ℕ). nearest_in s args.point) c.record_at.ensures)
     (text_of c.empty-none.result) c.empty-none.ensures.0 (not-true _ c.if-not-fix.true) in record {
       line = p.0;
       whole = p.1;
@@ -23,7 +23,7 @@ returns-then-fix-radius c =
     let args = c.args in
     let p =
     near args.block.now args.point args.radius args.base args.k c.nearest_in-fix.result
-    (c.nearest_in-fix.ensures ∙ ap (λ (s : List ℕ). nearest_in s args.point) c.record_of.ensures)
+    (c.nearest_in-fix.ensures ∙ ap (λ (s : List ℕ). nearest_in s args.point) c.record_at.ensures)
     (text_of c.fix_line.result) c.wrapping_add_u64.result c.fix_line.ensures.0 c.wrapping_add_u64.ensures.value
     (not-false _ c.if-not-fix.false) c.if-fix-radius.true in record {
       line = p.0;
@@ -36,7 +36,7 @@ returns c =
     let args = c.args in
     let p =
     far args.block.now args.point args.radius args.base args.k c.nearest_in-fix.result
-    (c.nearest_in-fix.ensures ∙ ap (λ (s : List ℕ). nearest_in s args.point) c.record_of.ensures)
+    (c.nearest_in-fix.ensures ∙ ap (λ (s : List ℕ). nearest_in s args.point) c.record_at.ensures)
     (text_of c.empty-none.result) c.empty-none.ensures.0 (not-false _ c.if-not-fix.false) c.if-fix-radius.false in record {
       line = p.0;
       whole = p.1;

@@ -28,22 +28,22 @@ module _ (n width : ℕ) (l q out : List Float) where
       → output t (calls.forward_rows n width l q) out ≡ calls.forward_rows_output n width l q out
   leaves t h = sym (ap (λ (b : Bool). output b (calls.forward_rows n width l q) out) h)
 
-pub copy_from_slice-requires : goal.copy_from_slice-requires
-copy_from_slice-requires c =
+pub copy-requires : goal.copy-requires
+copy-requires c =
     let s = sizes c.args.n c.args.width c.args.l.now c.args.q.now c.args.out.now (sym c.square_and_rows.ensures ∙ c.if-square_and_rows.true) in
     omega (arith, s.3, s.4)
 
 pub forward_rows-requires : goal.forward_rows-requires
 forward_rows-requires c =
     let s = sizes c.args.n c.args.width c.args.l.now c.args.q.now c.args.out.now (sym c.square_and_rows.ensures ∙ c.if-square_and_rows.true) in
-    omega (arith, s.2, s.3, s.4)
+    omega (arith, s.2, s.3, ap length c.copy.ensures)
 
 pub returns-then-square_and_rows : goal.returns-then-square_and_rows
 returns-then-square_and_rows c =
     let taken = sym c.square_and_rows.ensures ∙ c.if-square_and_rows.true in record {
       answer = gives c.args.n c.args.width c.args.l.now c.args.q.now c.args.out.now true taken;
       output = c.forward_rows.ensures
-          ∙ ap (rows.forward_rows c.args.l.now c.args.n c.args.width) c.copy_from_slice.ensures.after
+          ∙ ap (rows.forward_rows c.args.l.now c.args.n c.args.width) c.copy.ensures
           ∙ leaves c.args.n c.args.width c.args.l.now c.args.q.now c.args.out.now true taken;
     }
 

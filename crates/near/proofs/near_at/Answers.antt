@@ -5,8 +5,8 @@ use Rattle.near.proofs.Records.{sized}
 use Rattle.near.proofs.near_at.Goals as goal
 
 pub is_near-requires : goal.is_near-requires
-is_near-requires c = ap length c.record_of.ensures ∙ sized _ _ c.requires
+is_near-requires c = ap length c.record_at.ensures ∙ sized _ _ c.requires
 
 pub returns : goal.returns
 returns c =
-    c.is_near.ensures ∙ ap (is_near c.args.point c.args.radius) c.record_of.ensures
+    c.is_near.ensures ∙ ap (is_near c.args.point c.args.radius) c.record_at.ensures

@@ -8,11 +8,11 @@ use Rattle.near.proofs.Steps.{next-held}
 use Rattle.near.proofs.nearest_to.Goals as goal
 
 pub step-requires : goal.step-requires
-step-requires c = ap length c.record_of.ensures ∙ sized _ _ c.requires.0
+step-requires c = ap length c.record_at.ensures ∙ sized _ _ c.requires.0
 
 pub returns : goal.returns
 returns c =
     let args = c.args in
     c.step.ensures
-    ∙ ap₂ (λ (s : List ℕ) (h : Held). step (is_fix s) args.k (distance args.point s) h) c.record_of.ensures c.requires.1
+    ∙ ap₂ (λ (s : List ℕ) (h : Held). step (is_fix s) args.k (distance args.point s) h) c.record_at.ensures c.requires.1
     ∙ next-held args.file.now args.point args.k
